@@ -149,6 +149,34 @@ fn tables(bytes: &[u8]) -> u64 {
     sum
 }
 
+// Whether a table has declarations in the order of their codes, and ends; none of them is kept.
+fn is_table(bytes: &[u8], mut at: usize) -> Option<()> {
+    let mut next = 1;
+    loop {
+        match leb128(bytes, &mut at)? {
+            0 => return Some(()),
+            code if code == next => next += 1,
+            _ => return None,
+        }
+        let _tag: u16 = leb128(bytes, &mut at)?.try_into().ok()?;
+        let [_children] = take(bytes, &mut at)?;
+        loop {
+            let name: u16 = leb128(bytes, &mut at)?.try_into().ok()?;
+            let form: u16 = leb128(bytes, &mut at)?.try_into().ok()?;
+            if (name, form) == (0, 0) {
+                break;
+            }
+            if form == 0x21 {
+                signed_leb128(bytes, &mut at)?;
+            }
+        }
+    }
+}
+
+fn table_checks(bytes: &[u8]) -> u64 {
+    (0..bytes.len()).step_by(TABLE).map_while(|place| is_table(bytes, place)).count() as u64
+}
+
 fn report(name: &str, measure: impl FnOnce() -> u64) {
     let start = Instant::now();
     let sum = measure();
@@ -166,4 +194,5 @@ fn main() {
     report("fixed", || fixed(&fixed_bytes));
     report("texts", || texts(&text_bytes));
     report("tables", || tables(&table_bytes));
+    report("table_checks", || table_checks(&table_bytes));
 }

@@ -555,6 +555,7 @@ fn main() {
     let section = section(size);
     report("instructions", || instructions(&section));
     report("rows", || rows(&section));
+    report("rows_at_once", || rows(&section));
     let section = headers_section(size);
     report("headers", || headers(&section));
     report("checks", || checks(&section));

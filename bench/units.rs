@@ -397,6 +397,27 @@ fn skipped(unit: &[u8]) -> Option<u64> {
     })
 }
 
+const SUBPROGRAM: u16 = 0x2e;
+
+fn functions(unit: &[u8]) -> Option<u64> {
+    let (table, bytes) = (table(ABBREVIATIONS)?, entries(unit)?);
+    let (mut sum, mut at) = (0, 0);
+    while at < bytes.len() {
+        let code = leb128(bytes, &mut at)?;
+        if code == 0 {
+            continue;
+        }
+        let declaration = table.get(code as usize - 1)?;
+        for (_name, form) in &declaration.attributes {
+            skip(bytes, &mut at, *form)?;
+        }
+        if declaration.tag == SUBPROGRAM {
+            sum = mix(sum, declaration.tag.into());
+        }
+    }
+    (at <= bytes.len()).then_some(sum)
+}
+
 // ---- lists of ranges
 
 const LEAST_TOMBSTONE: u64 = u64::MAX - 1;
@@ -464,5 +485,6 @@ fn main() {
     report("read", || read(&unit));
     report("whole", || whole(&unit));
     report("skipped", || skipped(&unit));
+    report("functions", || functions(&unit));
     report("ranges", || ranges(count, &lists, &addresses));
 }

@@ -184,6 +184,40 @@ def try_old_names():
             expect(answers, "-e", "old", "--decompress", "--all", "-afi")
 
 
+def try_headers():
+    """Headers of sections that don't fit each other, in files with compressed sections of either form."""
+    new, old = read("small"), old_form(read("plain"))
+    table, = struct.unpack_from("<Q", new, 40)
+    names = struct.unpack_from("<H", new, 62)[0]
+    refuse_header(new, ".comment", "overlaps the section headers", place=table, size=64)
+    refuse_header(new, ".comment", "goes on after the end of the file", size=len(new))
+    packed = [*sections(new)].index(compressed_section(new)[0])
+    refuse_header(new, ".symtab", "holds names and is compressed", at=packed, link=packed)
+    refuse_header(old, ".symtab", "holds more than the names of sections, which change", at=names, link=names)
+    last = max(enumerate(sections(old).values()), key=lambda it: it[1][1][0])[0]
+    refuse_header(old, ".shstrtab", "has a name that doesn't end", at=last, size=sections(old)[".shstrtab"][1][5] - 1)
+    # The headers of sections begin 16 bytes before the end of the file's header, which the first doesn't use
+    count, = struct.unpack_from("<H", new, 60)
+    inside = bytearray(new)
+    struct.pack_into("<Q", inside, 40, 48)
+    inside[64:48 + 64 * count] = bytes(48) + new[table + 64:table + 64 * count]
+    write("changed", bytes(inside))
+    expect((1, "", "linemap: failed to decompress debug info: the section headers overlap the file's header\n"),
+           "-e", "changed", "--decompress", "1")
+
+
+def refuse_header(image, name, why, at=None, place=None, size=None, link=None):
+    """An image is refused whose section of a name has other fields; the refusal names it, or the section at an index."""
+    found = sections(image)
+    header, fields = found[name]
+    changed = [before if it is None else it for it, before in zip((place, size, link), fields[4:7])]
+    other = bytearray(image)
+    struct.pack_into(SECTION_HEADER, other, header, *fields[:4], *changed, *fields[7:])
+    write("changed", bytes(other))
+    index = [*found].index(name) if at is None else at
+    expect((1, "", f"linemap: failed to decompress debug info: section {index} {why}\n"), "-e", "changed", "--decompress", "1")
+
+
 def refuse_old(content):
     """A program whose sections have this content in GNU's old form is refused."""
     global runs
@@ -387,6 +421,7 @@ with tempfile.TemporaryDirectory(prefix="debug-files-") as work:
     if PLAIN[0] or PLAIN[2] or PLAIN[1].count("a_in_3") == 0:
         sys.exit(f"the plain program: {str(PLAIN)[:600]}")
     PLACE = re.search(r"^(0x[0-9a-f]+)\na_3$", PLAIN[1], re.M)[1]
-    for attempt in try_words, try_compression, try_damage, try_links, try_build_ids, try_supplements, try_split_files, try_old_names:
+    for attempt in (try_words, try_compression, try_damage, try_links, try_build_ids, try_supplements, try_split_files,
+                    try_old_names, try_headers):
         attempt()
 print(f"{runs} runs as they should be")

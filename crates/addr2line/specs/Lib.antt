@@ -33,12 +33,16 @@ pub use Rattle.addr2line_functions.specs.FunctionNames
 pub use Rattle.addr2line_demangle.specs.LegacyNames as RustNames
 pub use Rattle.addr2line_elf.specs.ElfImages
 pub use Rattle.addr2line_elf.specs.ElfSymbols
+pub use Rattle.addr2line_elf.specs.FileParts
+pub use Rattle.addr2line_elf.specs.LoadedParts
+pub use Rattle.addr2line_elf.specs.declared.file_parts.FilePart
 pub use Rattle.addr2line_split.specs.NamedFiles
 pub use Rattle.addr2line_split.specs.FileReads
 pub use Rattle.addr2line_split.specs.ImageFiles
 pub use Rattle.addr2line_split.specs.SplitLoading
 pub use Rattle.addr2line_loader.specs.LoadedFiles
 pub use Rattle.addr2line_loader.specs.ResolvedFiles
+pub use Rattle.addr2line_loader.specs.AlikeFiles
 pub use Rattle.addr2line_loader.specs.FileLoads
 pub use Rattle.addr2line_loader.specs.FileRanges
 pub use Rattle.addr2line_loader.specs.SourceAnswers

@@ -14,13 +14,17 @@ pub use addr2line_debug_files::{
     debug_file_names, find_debug_files, supplement_names,
 };
 pub use addr2line_demangle::{demangle, demangle_auto};
-pub use addr2line_elf::{LoadError, Symbol};
+pub use addr2line_elf::{
+    FilePart, FileParts, LoadError, MemoryFile, PartSource, Symbol, read_needed,
+};
 pub use addr2line_index::{Probed, Probes};
 pub use addr2line_loader::{
     DebugSections, DecompressError, DecompressedSource, Loader, LoaderRangeIter, decompressed,
     decompressed_sections,
 };
-pub use addr2line_split::{FileSource, FileSystem, MapSource, SplitFile, SplitSource, load_split};
+pub use addr2line_split::{
+    FileSource, FileSystem, MapSource, SplitFile, SplitSource, load_split, read_parts,
+};
 
 /// What holds of the definitions, as contracts.
 pub mod laws {
@@ -29,6 +33,7 @@ pub mod laws {
     pub use addr2line_elf::symbol_laws as symbols;
     pub use addr2line_functions::name_laws as entries;
     pub use addr2line_index::index_laws as lookups;
+    pub use addr2line_loader::part_laws as parts;
     pub use addr2line_names::laws as names;
     pub use addr2line_paths::path_laws as paths;
     pub use addr2line_spec::{

@@ -4,9 +4,9 @@ use Rattle.std.proofs.lemmas.Bool.{false≢true}
 use Rattle.std.proofs.lemmas.List.{length-map}
 use Rattle.std.proofs.lemmas.Option.{slice_get-map}
 use Rattle.addr2line_context.specs.Error.{Error}
+use Rattle.addr2line_context.specs.OwnedPlaces.{stretch_of}
 use Rattle.addr2line_c.specs.Answers.{KeepsStretches, GivesStretches, left_of}
 use Rattle.addr2line_c.specs.COutputs.{range_out, range_written}
-use Rattle.addr2line_c.specs.Copies.{stretch_of}
 use Rattle.addr2line_c.specs.declared.c_types.A2lRange.{A2lRange}
 use Rattle.addr2line_c.specs.declared.numbers.TheConstants.{OK}
 use Rattle.addr2line_c.specs.declared.open_file.OpenFile.{OpenFile}

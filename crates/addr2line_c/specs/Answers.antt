@@ -8,6 +8,7 @@ use Rattle.addr2line_context.specs.Frames.{Frame}
 use Rattle.addr2line_context.specs.Lines.{Location, Stretch}
 use Rattle.addr2line_context.specs.LoadAnswers.{AnswersOrNoMemory}
 use Rattle.addr2line_context.specs.Lookups.{answer_load}
+use Rattle.addr2line_context.specs.OwnedPlaces.{stretch_of}
 use Rattle.addr2line_context.specs.RangeWalks.{stretches_left}
 use Rattle.addr2line_context.specs.Repetition.{Listing, no_items, prepend}
 use Rattle.addr2line_split.specs.ElfSymbols.{NamedSymbol}
@@ -15,7 +16,7 @@ use Rattle.addr2line_split.specs.SplitLoading.{file_for}
 use Rattle.addr2line_loader.specs.DecompressedFiles.{decompressed_or_same}
 use Rattle.addr2line_loader.specs.SourceAnswers.{SourceFindsFrames}
 use Rattle.addr2line_c.specs.COutputs.{has, location_out, location_written, or_empty, range_out, range_written}
-use Rattle.addr2line_c.specs.Copies.{frame_of, stretch_of}
+use Rattle.addr2line_c.specs.Copies.{frame_of}
 use Rattle.addr2line_c.specs.Numbers.{done_number, error_number}
 use Rattle.addr2line_c.specs.ShownFrames.{ShownFrame, name_text, shown_frame}
 use Rattle.addr2line_c.specs.Sources.{answers_none, no_files}

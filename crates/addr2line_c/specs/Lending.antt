@@ -9,6 +9,6 @@ use Rattle.addr2line_c.specs.contracts.handle.Handle.{the_row}
 abbrev pub with_file : Handle → OpenFile → Handle
 with_file h k = record { opened = 1; at = h.at; file = k }
 
--- s ends open, with the last value behind r as what it keeps
+-- in the end s is open, and keeps the last value of what r lends
 abbrev pub LendsFile : MutBor Handle → MutBor OpenFile → Fml
 LendsFile s r = Lends the_row file_row s r (with_file s.now)

@@ -3,11 +3,12 @@
 
 ghost use Rattle.std.specs.Prelude.{◌≡◌, option_map};
 ghost use Rattle.addr2line_context.specs.BorrowedLocations.{location_value};
+ghost use Rattle.addr2line_context.specs.OwnedPlaces.{location_of, stretch_of};
 ghost use Rattle.addr2line_c.specs.COutputs.{byte_of, frame_out, frame_written, has, location_out, location_out_if_any, location_written, no_location_out, or_empty, or_zero, range_out, range_written};
-ghost use Rattle.addr2line_c.specs.Copies.{frame_of, location_of, stretch_of};
+ghost use Rattle.addr2line_c.specs.Copies.{frame_of};
 
-use crate::copies::{OwnedFrame, OwnedLocation, OwnedStretch, lend_text};
-use addr2line_context::{DwLang, Location};
+use crate::copies::OwnedFrame;
+use addr2line_context::{DwLang, Location, OwnedLocation, OwnedStretch};
 
 /// A text.
 #[repr(C)]
@@ -174,7 +175,7 @@ impl<'a> A2lFrame<'a> {
         ensures { frame_written result ≡ frame_out (frame_of frame.now) }
     {
         A2lFrame {
-            function: bytes_or_none(lend_text(&frame.name)),
+            function: bytes_or_none(frame.name.as_deref()),
             location: A2lLocation::of_owned(&frame.location),
             entry_offset: frame.offset.unwrap_or(0),
             language: code_of_language(frame.language),

@@ -16,9 +16,11 @@ ghost use Rattle.addr2line_c.specs.Copies.{frame_of};
 ghost use Rattle.addr2line_c.specs.OpenHandles.{IsNew};
 ghost use Rattle.addr2line_c.specs.ShownFrames.{shown_frame};
 
-use crate::copies::{OwnedFrame, OwnedStretch};
+use crate::copies::OwnedFrame;
 use crate::load_sources::NoFiles;
-use addr2line_context::{Error, FrameIter, RangeWalk, Reader, SplitDwarfLoad, UnitToken};
+use addr2line_context::{
+    Error, FrameIter, OwnedStretch, RangeWalk, Reader, SplitDwarfLoad, UnitToken,
+};
 use addr2line_loader::stretches::next_place;
 use addr2line_loader::{DecompressError, Loader};
 use addr2line_split::{ImageReader, LoadError};

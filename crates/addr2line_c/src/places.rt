@@ -5,18 +5,17 @@ ghost use Rattle.addr2line_context.specs.ContextCosts.{AsksForPlace};
 ghost use Rattle.addr2line_context.specs.Contexts.{location, stretches};
 ghost use Rattle.addr2line_context.specs.Error.TheVariants.{Memory};
 ghost use Rattle.addr2line_context.specs.KeptUnits.{KeepsAsked};
+ghost use Rattle.addr2line_context.specs.OwnedPlaces.{stretch_of};
 ghost use Rattle.addr2line_context.specs.RangeWalks.{stretches_left};
 ghost use Rattle.addr2line_loader.specs.ResolvedFiles.{answered_context};
 ghost use Rattle.addr2line_c.specs.Answers.{WritesPlace, GivesStretches};
-ghost use Rattle.addr2line_c.specs.Copies.{stretch_of};
 ghost use Rattle.addr2line_c.specs.COutputs.{range_out, range_written};
 ghost use Rattle.addr2line_c.specs.Numbers.{IsOrNoMemory, error_number, found_number, refused_number};
 
 use crate::c_types::{A2lLocation, A2lRange};
-use crate::copies::OwnedStretch;
 use crate::handle::Handle;
 use crate::numbers::{NO_ROOM, NOT_FOUND, OK, PAST_END, done_number, error_number, refused_number};
-use addr2line_context::RangeWalk;
+use addr2line_context::{OwnedStretch, RangeWalk};
 use std::alloc::Global;
 
 /// The place of an address. Its text is lent until the handle is used again.

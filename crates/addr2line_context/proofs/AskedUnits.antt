@@ -12,14 +12,14 @@ use Rattle.addr2line_lookups.specs.FirstAnswers.{SplitLoad, FirstAnswer, FirstAn
 use Rattle.addr2line_lookups.specs.Lookups.{map_output, first_output, is_answer, is_there, frames_under, unit_under}
 use Rattle.addr2line_lookups.specs.Pairs.{Pair, covering_pairs}
 use Rattle.addr2line_lookups.specs.EntryReferences.{KnownUnits}
-use Rattle.addr2line_lookups.specs.ContextNames.{known_units, naming_in}
+use Rattle.addr2line_lookups.specs.ContextNames.{known_units, naming_in, naming_from}
 use Rattle.addr2line_lookups.specs.Contexts.{ContextUnit, FileContext, ranges_of}
 use Rattle.addr2line_lookups.specs.NumberedRanges.{numbered_range, covering_ranges}
 use Rattle.addr2line_lookups.specs.ContextUnits.{ordered_ranges}
 use Rattle.addr2line_lookups.specs.ResolvedUnits.{AnsweredUnit, ResolvedUnit, value_of_unit, plain_unit, main_unit, undecided, decided, first_answer, pending_load, unit_of_functions}
 use Rattle.addr2line_lookups.specs.AnsweredUnits.{answers_of, AreOfFile}
 use Rattle.addr2line_lookups.specs.Preloads.{numbered_load}
-use Rattle.addr2line_lookups.specs.KeptCalls.{known_among, naming_from}
+use Rattle.addr2line_lookups.specs.KeptCalls.{known_among}
 use Rattle.addr2line_lookups.specs.FramePlaces.{frames_of_answered}
 use Rattle.addr2line_lookups.specs.UnitLookups.{unless_waiting, ask_if_any, ask_at, frames_among, unit_among, unit_with, unit_of_answered}
 use Rattle.addr2line_lookups.proofs.UnitAnswers.{Each, IsAt, covering_at}

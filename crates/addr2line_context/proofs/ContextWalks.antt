@@ -11,8 +11,8 @@ use Rattle.addr2line_lookups.specs.Histories.{functions_or_refusal, calls_or_ref
 use Rattle.addr2line_lookups.specs.Functions.{functions_of_unit}
 use Rattle.addr2line_lookups.specs.InlinedCalls.{calls_of_function}
 use Rattle.addr2line_lookups.specs.EntryReferences.{KnownUnits, HoldingUnit}
-use Rattle.addr2line_lookups.specs.ContextNames.{known_units, naming_in}
-use Rattle.addr2line_lookups.specs.KeptCalls.{known_among, naming_from}
+use Rattle.addr2line_lookups.specs.ContextNames.{known_units, naming_in, naming_from}
+use Rattle.addr2line_lookups.specs.KeptCalls.{known_among}
 use Rattle.addr2line_lookups.specs.ResolvedUnits.{AnsweredUnit, ResolvedUnit, value_of_unit, plain_unit, first_answer, functions_under, unit_of_functions}
 use Rattle.addr2line_lookups.proofs.NewUnits.{unit_of}
 use Rattle.addr2line_lookups.specs.AnsweredUnits.{AreOfFile, answers_of}

@@ -1,5 +1,5 @@
 -- The load for which the frames of an address wait.
-use Rattle.std.proofs.Common.{◌≡◌, ◌≢◌, ℕ, zero, suc, ◌+◌, ◌<◌, ◌≤◌, List, [], ◌∷◌, length, Bool, Result, Ok, Err, OnOk, arith, sym, ap, subst}
+use Rattle.std.proofs.Common.{◌≡◌, ◌≢◌, ℕ, zero, suc, ◌+◌, ◌<◌, ◌≤◌, List, [], ◌∷◌, length, Option, Result, Ok, Err, OnOk, arith, sym, ap, subst}
 use Rattle.addr2line_lookups.specs.Error.{Error}
 use Rattle.addr2line_lookups.specs.Error.TheVariants.{Memory}
 use Rattle.addr2line_lookups.specs.FirstAnswers.{FirstAnswer, PendingLoad, Lookup, output, pending}
@@ -15,8 +15,9 @@ use Rattle.addr2line_lookups.specs.declared.settled.Settled.{Settled}
 use Rattle.addr2line_lookups.specs.declared.settled.Settled.TheVariants.{Waits, Nothing, Found}
 use Rattle.addr2line_lookups.proofs.PendingLoads.{waits_for_first, first_of_each}
 use Rattle.addr2line_context.specs.AnsweredContexts.{AnsweredContext}
-use Rattle.addr2line_context.specs.FrameLoads.{IsDone, TellsWaiting, TellsIfWaiting}
+use Rattle.addr2line_context.specs.FrameLoads.{IsDone, DecidesUnlessWaiting, DecidesFrames, IsSettled}
 use Rattle.addr2line_context.specs.SettledLookups.{frames_in, loads_in}
+use Rattle.addr2line_context.specs.declared.frame_loads.DecidedFrames.{DecidedFrames}
 use Rattle.addr2line_context.proofs.AnsweredFirst.{frames_have_load}
 
 -- it is the first of the address's
@@ -40,24 +41,26 @@ fewer_loads_of_frames c new a (Ok done) waits fewer =
     by (suc n) h some = let next = h (omega arith) in omega (arith, next)
 fewer_loads_of_frames c new a (Err e) waits fewer = tt
 
--- whether they wait, by what settling found
-pub frames_tell : (us : List ResolvedUnit) (m : Lookup (Result (List Frame) Error))
-    (settled : Result (Settled FramePlace) Error) (r : Result Bool Error) → SettlesFrames us m settled
-    → TellsIfWaiting settled r → TellsWaiting m r
-frames_tell us m (Ok Waits) r h is = subst (TellsWaiting m) (sym is) h
-frames_tell us m (Ok Nothing) r h is = subst (TellsWaiting m) (sym is) (Ok [], h)
-frames_tell us m (Ok (Found p)) r h is = subst (TellsWaiting m) (sym is) (h.answer, h.is_found)
-frames_tell us m (Err e) (Ok w) h is = subst (λ b. TellsWaiting m (Ok b)) (sym is.0) (Err e, h is.1)
-frames_tell us m (Err e) (Err d) h is = is.1
+-- what decides them, by what settling found
+pub frames_decided : (us : List ResolvedUnit) (m : Lookup (Result (List Frame) Error))
+    (settled : Result (Settled FramePlace) Error) (r : Result (Option DecidedFrames) Error) → SettlesFrames us m settled
+    → IsSettled settled r → DecidesUnlessWaiting (DecidesFrames us) m r
+frames_decided us m (Ok Waits) r h is = subst (DecidesUnlessWaiting (DecidesFrames us) m) (sym is) h
+frames_decided us m (Ok Nothing) r h is = subst (DecidesUnlessWaiting (DecidesFrames us) m) (sym is) ((Ok [], h), h)
+frames_decided us m (Ok (Found p)) r h is =
+    subst (DecidesUnlessWaiting (DecidesFrames us) m) (sym is) ((h.answer, h.is_found), h)
+frames_decided us m (Err e) (Ok o) h is =
+    subst (λ d. DecidesUnlessWaiting (DecidesFrames us) m (Ok d)) (sym is.0) ((Err e, h is.1), h is.1)
+frames_decided us m (Err e) (Err d) h is = is.1
 
 -- where that isn't out of memory, neither was settling
-pub settled_with_memory : {P : Type 0} (settled : Result (Settled P) Error) (r : Result Bool Error)
-    → TellsIfWaiting settled r → r ≢ Err Memory → settled ≢ Err Memory
-settled_with_memory (Ok s) r tells has is = cc
-settled_with_memory (Err e) (Ok w) tells has is = let same : e ≡ Memory = cc in tells.1 same
-settled_with_memory (Err e) (Err d) tells has is = has (ap refused tells.1)
+pub settled_with_memory : (settled : Result (Settled FramePlace) Error) (r : Result (Option DecidedFrames) Error)
+    → IsSettled settled r → r ≢ Err Memory → settled ≢ Err Memory
+settled_with_memory (Ok s) r decided has is = cc
+settled_with_memory (Err e) (Ok o) decided has is = let same : e ≡ Memory = cc in decided.1 same
+settled_with_memory (Err e) (Err d) decided has is = has (ap refused decided.1)
   where
-    refused : Error → Result Bool Error
+    refused : Error → Result (Option DecidedFrames) Error
     refused f = Err f
 
 -- what is found waits for no load

@@ -1,19 +1,12 @@
 -- The load for which the unit of an address waits.
-use Rattle.std.proofs.Common.{◌≡◌, ℕ, List, ◌∷◌, Bool, Option, None, Result, Ok, Err, sym, subst}
-use Rattle.addr2line_lookups.specs.Error.{Error}
+use Rattle.std.proofs.Common.{◌≡◌, ℕ, List, ◌∷◌, None}
 use Rattle.addr2line_lookups.specs.FirstAnswers.{FirstAnswer, PendingLoad, Lookup, pending}
-use Rattle.addr2line_lookups.specs.UnitFacts.{UnitInFile}
 use Rattle.addr2line_lookups.specs.Lookups.{decision_of, unit_under, is_there}
 use Rattle.addr2line_lookups.specs.Pairs.{Pair, covering_pairs}
 use Rattle.addr2line_lookups.specs.ContextNames.{naming_in}
 use Rattle.addr2line_lookups.specs.Contexts.{ContextUnit, ranges_of}
-use Rattle.addr2line_lookups.specs.ResolvedUnits.{AnsweredUnit}
-use Rattle.addr2line_lookups.specs.UnitLookups.{SettlesUnit, unit_at_number}
-use Rattle.addr2line_lookups.specs.declared.settled.Settled.{Settled}
-use Rattle.addr2line_lookups.specs.declared.settled.Settled.TheVariants.{Waits, Nothing, Found}
 use Rattle.addr2line_lookups.proofs.PendingLoads.{waits_for_first, first_of_each}
 use Rattle.addr2line_context.specs.AnsweredContexts.{AnsweredContext}
-use Rattle.addr2line_context.specs.FrameLoads.{TellsWaiting, TellsIfWaiting}
 use Rattle.addr2line_context.specs.SettledLookups.{unit_in, loads_in}
 
 -- it is the first of the address's
@@ -24,12 +17,3 @@ first_load_of_unit c a p h =
     (waits_for_first (λ (q : Pair ContextUnit). decision_of c.plain c.answers q.number q.unit) is_there None
     (λ q. unit_under c.plain (naming_in c.plain) a q.unit) (λ q (first : FirstAnswer). first) p
     (covering_pairs ranges_of c.plain.context.units a) h)
-
--- whether it waits, by what settling found
-pub unit_tells : (vs : List AnsweredUnit) (m : Lookup (Option UnitInFile)) (settled : Result (Settled ℕ) Error)
-    (r : Result Bool Error) → SettlesUnit vs m settled → TellsIfWaiting settled r → TellsWaiting m r
-unit_tells vs m (Ok Waits) r h is = subst (TellsWaiting m) (sym is) h
-unit_tells vs m (Ok Nothing) r h is = subst (TellsWaiting m) (sym is) (None, h)
-unit_tells vs m (Ok (Found n)) r h is = subst (TellsWaiting m) (sym is) (unit_at_number vs n, h.is_found)
-unit_tells vs m (Err e) (Ok w) h is = absurd (is.1 h)
-unit_tells vs m (Err e) (Err d) h is = is.1

@@ -51,6 +51,7 @@ pub use Rattle.addr2line_lookups.specs.declared.range_walk.RangeWalk
 pub use Rattle.addr2line_lookups.specs.Location
 pub mod RangeItems
 pub mod LocationRanges
+pub mod OwnedPlaces
 pub mod AnsweredContexts
 pub mod Progresses
 pub mod KeptContexts

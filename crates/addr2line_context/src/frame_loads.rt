@@ -1,47 +1,85 @@
 //! The loads that the frames of an address wait for, one after the other, for a crate that answers
-//! each itself; and the frames once all are answered.
+//! each itself. Once all are answered, one search decides the frames, and lends nothing; then they
+//! are lent from the context, in which nothing is searched again.
 
-ghost use Rattle.std.specs.Prelude.{◌≡◌, ◌≢◌, ◌⊎◌, ◌<◌, ◌≤◌, ◌+◌, OnOk, Err, IfErr, length, option_map};
-ghost use Rattle.std.specs.Borrow.{sem};
-ghost use Rattle.std.specs.Io.BufRead.{Rests};
+ghost use Rattle.std.specs.Prelude.{◌≡◌, ◌≢◌, ◌⊎◌, ◌<◌, ◌≤◌, ◌+◌, List, Result, OnOk, Err, IfErr, length, option_map};
 ghost use Rattle.addr2line_lookups.specs.BorrowedFrames.{frames_left};
+ghost use Rattle.addr2line_lookups.specs.Error.{Error};
 ghost use Rattle.addr2line_lookups.specs.Error.TheVariants.{Memory};
+ghost use Rattle.addr2line_lookups.specs.FirstAnswers.{Lookup};
+ghost use Rattle.addr2line_lookups.specs.Frames.{Frame};
 ghost use Rattle.addr2line_lookups.specs.KeptUnits.{ReadsNoLines, ReadsNoFunctions};
 ghost use Rattle.addr2line_lookups.specs.LookupCosts.{AtMostLooks};
 ghost use Rattle.addr2line_context.specs.ContextCosts.{frame_search, AfterSearch};
-ghost use Rattle.addr2line_context.specs.FrameLoads.{IsDone, TellsWaiting, TellsIfWaiting, GivesDecided};
+ghost use Rattle.addr2line_context.specs.FrameLoads.{DecidesUnlessWaiting, DecidesFrames, IsSettled, GivesDecided};
 ghost use Rattle.addr2line_context.specs.SettledLookups.{frames_in, loads_in, after_answer, LoadOf};
-ghost use Rattle.addr2line_context.specs.contracts.context.Context.{the_row};
 
 use crate::context::Context;
 use addr2line_lookups::{
-    Dwarf, Error, FrameIter, Reader, Settled, SplitDwarfLoad, frame_without_function,
+    Dwarf, Error, FrameIter, FramePlace, Reader, Settled, SplitDwarfLoad, frame_without_function,
 };
 use std::rc::Rc;
 
-// Whether settling found that a load needs an answer. The only error is out of memory.
-pub(crate) fn is_waiting<P: Drop>(settled: Result<Settled<P>, Error>) -> Result<bool, Error>
-    ensures { TellsIfWaiting settled result }
+/// The frames of an address that wait for no load: where they are in the context that was asked,
+/// that there are none, or why they are refused.
+#[derive(Drop)]
+pub enum DecidedFrames {
+    /// They are at a place.
+    Place(FramePlace),
+    /// There are none.
+    NoFrames,
+    /// They are refused.
+    Refusal(Error),
+}
+
+// What settling found, unless a load needs an answer. The only error is out of memory.
+fn decided_frames(
+    settled: Result<Settled<FramePlace>, Error>,
+) -> Result<Option<DecidedFrames>, Error>
+    ensures { IsSettled settled result }
 {
     match settled {
-        Ok(Settled::Waits) => Ok(true),
-        Ok(Settled::Nothing) => Ok(false),
-        Ok(Settled::Found(_)) => Ok(false),
+        Ok(Settled::Waits) => Ok(None),
+        Ok(Settled::Nothing) => Ok(Some(DecidedFrames::NoFrames)),
+        Ok(Settled::Found(place)) => Ok(Some(DecidedFrames::Place(place))),
         Err(error) => match error {
             Error::Memory => Err(Error::Memory),
-            _ => Ok(false),
+            _ => Ok(Some(DecidedFrames::Refusal(error))),
         },
     }
 }
 
-/// Whether the frames of an address wait for a load. What is read on the way is kept. The only
-/// error is out of memory.
-pub fn frames_wait<R: Reader>(context: &mut Context<R>, probe: u64) -> Result<bool, Error>
+/// Decides the frames of an address, unless they wait for a load. What is read on the way is kept.
+/// The only error is out of memory.
+pub fn settle_frames<R: Reader>(
+    context: &mut Context<R>,
+    probe: u64,
+) -> Result<Option<DecidedFrames>, Error>
     ensures after { AfterSearch frame_search (result ≢ Err Memory) probe context.old context.new }
-    ensures waits { TellsWaiting (frames_in context.old.value probe) result }
+    ensures settles { DecidesUnlessWaiting (DecidesFrames context.new.units)
+        (frames_in context.old.value probe) result }
 {
     let settled = context.settle_frames(probe);
-    is_waiting(settled)
+    decided_frames(settled)
+}
+
+/// Decided frames, as `Context::find_frames` finds them, lent from the context that decided them,
+/// whose units are still as they were then. Nothing is searched.
+pub fn lend_frames<R: Reader>(
+    context: &Context<R>,
+    decided: DecidedFrames,
+) -> Result<FrameIter<'_, R>, Error>
+    requires { (meaning : Lookup (Result (List Frame) Error))
+        × DecidesFrames context.now.units meaning decided }
+    ensures { (meaning : Lookup (Result (List Frame) Error))
+        → DecidesFrames context.now.units meaning decided
+        → GivesDecided frames_left result meaning }
+{
+    match decided {
+        DecidedFrames::Place(place) => Ok(context.units.frames_at_place(place)),
+        DecidedFrames::NoFrames => Ok(frame_without_function(None)),
+        DecidedFrames::Refusal(error) => Err(error),
+    }
 }
 
 /// The first load of an address that has one. The only error is out of memory.
@@ -74,23 +112,4 @@ pub fn answer_first<R: Reader>(
     ensures functions { ReadsNoFunctions context.old.units context.new.units }
 {
     context.answer_first(probe, file)
-}
-
-/// The frames of an address that wait for no load, as `Context::find_frames` finds them.
-pub fn find_decided_frames<R: Reader>(
-    context: &mut Context<R>,
-    probe: u64,
-) -> Result<FrameIter<'_, R>, Error>
-    requires { IsDone (frames_in context.old.value probe) }
-    ensures found { GivesDecided frames_left result (frames_in context.old.value probe) }
-    ensures* after { sem 𝓛 (Rests (the_row R.row R.Endian.row R.Offset.row R.Reader
-        R.Endian.Endianity R.Offset.ReaderOffset.own R.Offset.Debug) context.entry
-        (AfterSearch frame_search (result ≢ Err Memory) probe context.old)) }
-{
-    match context.settle_frames(probe) {
-        Ok(Settled::Found(place)) => Ok(context.units.frames_at_place(place)),
-        Ok(Settled::Nothing) => Ok(frame_without_function(None)),
-        Ok(Settled::Waits) => unreachable!(),
-        Err(error) => Err(error),
-    }
 }

@@ -33,7 +33,8 @@ id_without_padding : build_id_in (section (gnu_note 2 3 (0xab ∷ 0xcd ∷ [])))
 unfolding listing_in items_within note fixed
 id_without_padding = refl
 
-id_after_another_note : build_id_in (section (gnu_note 1 1 (9 ∷ 0 ∷ 0 ∷ 0 ∷ []) ++ gnu_note 1 3 (0xab ∷ []))) ≡ Some (0xab ∷ [])
+id_after_another_note : build_id_in (section (gnu_note 1 1 (9 ∷ 0 ∷ 0 ∷ 0 ∷ []) ++ gnu_note 1 3 (0xab ∷ [])))
+    ≡ Some (0xab ∷ [])
 unfolding listing_in items_within note fixed
 id_after_another_note = refl
 

@@ -12,7 +12,8 @@ or-true : (b : Bool) → (b || true) ≡ true
 or-true true = refl
 or-true false = refl
 
-any-push : (xs : List ℕ) (x : ℕ) (b : Bool) → is_slash x ≡ b → list_any is_slash (xs ++ x ∷ []) ≡ (list_any is_slash xs || b)
+any-push : (xs : List ℕ) (x : ℕ) (b : Bool) → is_slash x ≡ b
+    → list_any is_slash (xs ++ x ∷ []) ≡ (list_any is_slash xs || b)
 any-push [] x b e = or-false (is_slash x) ∙ e
 any-push (y ∷ ys) x b e = at (is_slash y) (any-push ys x b e)
   where
@@ -25,20 +26,23 @@ any-push (y ∷ ys) x b e = at (is_slash y) (any-push ys x b e)
 pub folder_of-name : (xs : List ℕ) (x : ℕ) → is_slash x ≡ false → folder_of (xs ++ x ∷ []) ≡ folder_of xs
 folder_of-name [] x e = ap (λ b. cond (b || false) (x ∷ []) []) e
 folder_of-name (y ∷ ys) x e =
-    ap (λ b. cond (is_slash y || b) (y ∷ folder_of (ys ++ x ∷ [])) []) (any-push ys x false e ∙ or-false (list_any is_slash ys))
+    ap (λ b. cond (is_slash y || b) (y ∷ folder_of (ys ++ x ∷ [])) [])
+    (any-push ys x false e ∙ or-false (list_any is_slash ys))
     ∙ ap (λ l. cond (is_slash y || list_any is_slash ys) (y ∷ l) []) (folder_of-name ys x e)
 
 -- a slash
 pub folder_of-slash : (xs : List ℕ) (x : ℕ) → is_slash x ≡ true → folder_of (xs ++ x ∷ []) ≡ xs ++ x ∷ []
 folder_of-slash [] x e = ap (λ b. cond (b || false) (x ∷ []) []) e
 folder_of-slash (y ∷ ys) x e =
-    ap (λ b. cond (is_slash y || b) (y ∷ folder_of (ys ++ x ∷ [])) []) (any-push ys x true e ∙ or-true (list_any is_slash ys))
+    ap (λ b. cond (is_slash y || b) (y ∷ folder_of (ys ++ x ∷ [])) [])
+    (any-push ys x true e ∙ or-true (list_any is_slash ys))
     ∙ ap (λ b. cond b (y ∷ folder_of (ys ++ x ∷ [])) []) (or-true (is_slash y))
     ∙ ap (λ (l : List ℕ). y ∷ l) (folder_of-slash ys x e)
 
 -- ---- the first bytes of a path
 
-last_added : (path : List ℕ) (n : ℕ) → 0 < n → n ≤ length path → take n path ≡ take (n - 1) path ++ get_or path (n - 1) 0 ∷ []
+last_added : (path : List ℕ) (n : ℕ) → 0 < n → n ≤ length path
+    → take n path ≡ take (n - 1) path ++ get_or path (n - 1) 0 ∷ []
 last_added path n some within =
     let is : n ≡ n - 1 + 1 = omega arith in
     ap (λ (k : ℕ). take k path) is ∙ take_more path (n - 1) 0 (omega arith)

@@ -45,9 +45,11 @@ abbrev as_item : Result (Note × View) Error → Read
 as_item r = proceed r (λ x. give (Some x))
 
 -- by what is next
-by_next : (v : View) (r : Read) → until_end note v ≡ r → first_build_id v ≡ first_of (next_item r (listing_in bytes_left (until_end note)))
+by_next : (v : View) (r : Read) → until_end note v ≡ r
+    → first_build_id v ≡ first_of (next_item r (listing_in bytes_left (until_end note)))
 by_next v r is =
-    ap first_of (listing_next notes_shrink v ∙ ap (λ (x : Read). next_item x (listing_in bytes_left (until_end note))) is)
+    ap first_of
+    (listing_next notes_shrink v ∙ ap (λ (x : Read). next_item x (listing_in bytes_left (until_end note))) is)
 
 next_is : (v : View) (r : Result (Note × View) Error) → eqb (length v.bytes) 0 ≡ false → note v ≡ r
     → until_end note v ≡ as_item r

@@ -1,5 +1,5 @@
--- CRC-32, the check sequence of 32 bits (ISO 3309; ITU-T V.42, 8.1.1.6.2): the remainder of a text's
--- polynomial over GF(2), one bit at a time.
+-- CRC-32, the check sequence of 32 bits (ISO 3309; ITU-T V.42, 8.1.1.6.2): the remainder of a
+-- text's polynomial over GF(2), one bit at a time.
 use Rattle.std.specs.Prelude.{ℕ, zero, suc, ◌-◌, ◌/◌, ◌%◌, ◌^◌, ◌==◌, bit_xor, List, [], ◌∷◌, ◌++◌, if◌then◌else◌}
 use Rattle.addr2line_debug_files.specs.declared.checksum.TheConstants.{GENERATOR}
 

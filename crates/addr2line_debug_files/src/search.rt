@@ -14,8 +14,8 @@ use bytes::Bytes;
 use std::alloc::{AllocError, Global};
 
 /// The first of the candidates whose file is the one that is named. Each is asked for once, in
-/// order, and none after that one. It reads the headers of each file, or for a CRC-32 the file once.
-/// After a refusal it isn't said which candidates were asked for.
+/// order, and none after that one. It reads the headers of each file, or for a CRC-32 the file
+/// once. After a refusal it isn't said which candidates were asked for.
 pub fn find_first<F: FilesByPath>(
     alloc: Global,
     candidates: &[Candidate],

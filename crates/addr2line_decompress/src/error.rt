@@ -8,7 +8,8 @@ use addr2line_inflate::InflateError;
 use std::alloc::{AllocError, AllocFailed};
 use std::fmt;
 
-/// Why an image isn't decompressed. Displayed as a sentence. A section is named by its index in the table of sections.
+/// Why an image isn't decompressed. Displayed as a sentence. A section is named by its index in the
+/// table of sections.
 #[derive(Clone, Copy, Debug, PartialEq, Eq)]
 pub enum DecompressError {
     /// Out of memory.

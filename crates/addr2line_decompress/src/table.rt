@@ -19,11 +19,14 @@ use std::marker::Model;
 #[derive(Debug, Drop)]
 pub struct ImageTable {
     elf: Elf,
+    // The bytes of the file.
+    bytes: Bytes,
     offset: u64,
     names_index: u32,
 }
 
 impl Model for ImageTable {
+    ghost use Rattle.std.specs.Prelude.{◌≡◌};
     ghost use Rattle.addr2line_decompress.specs.ImageTables.{ImageTable};
 
     ghost Value = { ImageTable };
@@ -33,6 +36,8 @@ impl Model for ImageTable {
       offset = t.offset;
       names_index = t.names_index;
     } };
+
+    ghost invariant = { λ t. t.bytes ≡ t.elf.file.bytes };
 }
 
 impl ImageTable {
@@ -50,8 +55,10 @@ impl ImageTable {
         let elf = Elf::parse(alloc, image.clone()?)?;
         let header = elf.header()?;
         let first = elf.header_at(header.table_offset)?;
+        let bytes = elf.bytes()?;
         Ok(ImageTable {
             elf,
+            bytes,
             offset: header.table_offset,
             names_index: header.names_index(&first),
         })
@@ -61,7 +68,7 @@ impl ImageTable {
     pub(crate) fn bytes(&self) -> &[u8]
         ensures { result.now ≡ file_bytes self.now }
     {
-        self.elf.as_bytes()
+        self.bytes.as_slice()
     }
 
     // The class of the file.

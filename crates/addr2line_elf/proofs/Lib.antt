@@ -4,7 +4,9 @@ mod NameLemmas
 mod NamePartLemmas
 mod SymbolNames
 mod FirstHighestSymbol
-mod SectionTableRoom
+mod FilePartLemmas
+mod RangeReads
+mod LoadedPartLemmas
 mod SymbolChoice
 mod SymbolStretchLemmas
 mod SymbolSweepLemmas

@@ -8,6 +8,11 @@ abbrev pub word_size : Class → ℕ
 word_size Elf32 = 4
 word_size Elf64 = 8
 
+-- the bytes of the file's header
+abbrev pub file_header_size : Class → ℕ
+file_header_size Elf32 = 52
+file_header_size Elf64 = 64
+
 -- the bytes of a section header
 abbrev pub section_header_size : Class → ℕ
 section_header_size Elf32 = 40

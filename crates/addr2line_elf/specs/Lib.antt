@@ -1,5 +1,6 @@
 pub mod LoadErrors
 pub mod ImageLoading
+pub mod FileParts
 pub mod ElfClasses
 pub mod ElfHeaders
 pub mod ElfTexts
@@ -11,3 +12,4 @@ pub mod SymbolStretches
 pub mod SymbolSweeps
 pub mod ElfDebugSections
 pub mod StandardNumbers
+pub mod LoadedParts

@@ -1,5 +1,5 @@
 -- Why an image isn't loaded.
-use Rattle.std.specs.Prelude.{ℕ, List, ◌++◌, codes}
+use Rattle.std.specs.Prelude.{◌≡◌, ◌⊎◌, ℕ, List, ◌++◌, codes}
 use Rattle.gimli_core_readers.specs.Error.{Error}
 use Rattle.gimli_core_readers.specs.Error.TheVariants as debug
 use Rattle.gimli_core_readers.specs.ErrorText.{error_text}
@@ -24,3 +24,7 @@ text_of CompressedSection = codes "L6"
 text_of NeedsRelocation = codes "L7"
 text_of (Dwarf debug.Memory) = codes "L1"
 text_of (Dwarf e) = codes "L8 " ++ error_text e
+
+-- out of memory, or a file that can't be read
+abbrev pub IsReadRefusal : LoadError → Type 0
+IsReadRefusal e = (e ≡ Memory) ⊎ (e ≡ Io)

@@ -1,10 +1,10 @@
 -- The constants of this crate, each with the number that the standard gives it (System V ABI), in
 -- the order of the standard's chapters.
 use Rattle.std.specs.Prelude.{◌≡◌}
-use Rattle.addr2line_elf.specs.declared.constants.TheConstants.{EI_CLASS, EI_DATA, ELFCLASS32, ELFCLASS64, ELFDATA2LSB, ELFDATA2MSB, ET_REL, SHN_UNDEF, SHN_XINDEX, SHT_SYMTAB, SHT_RELA, SHT_NOBITS, SHT_REL, SHT_DYNSYM, SHF_COMPRESSED, STT_FUNC}
+use Rattle.addr2line_elf.specs.declared.constants.TheConstants.{EI_CLASS, EI_DATA, EI_NIDENT, ELFCLASS32, ELFCLASS64, ELFDATA2LSB, ELFDATA2MSB, ET_REL, SHN_UNDEF, SHN_XINDEX, SHT_SYMTAB, SHT_RELA, SHT_NOBITS, SHT_REL, SHT_DYNSYM, SHF_COMPRESSED, STT_FUNC}
 
--- the places of the class and of the order of bytes in a file's identification, and what they hold
--- ("ELF Header", "ELF Identification")
+-- the places of the class and of the order of bytes in a file's identification, what they hold, and
+-- the bytes of the identification ("ELF Header", "ELF Identification")
 abbrev pub IdentificationNumbers : Type 0
 IdentificationNumbers =
     (EI_CLASS ≡ 4)
@@ -13,6 +13,7 @@ IdentificationNumbers =
     × (EI_DATA ≡ 5)
     × (ELFDATA2LSB ≡ 1)
     × (ELFDATA2MSB ≡ 2)
+    × (EI_NIDENT ≡ 16)
 
 -- the types of files ("ELF Header", e_type)
 abbrev pub FileTypeNumbers : Type 0

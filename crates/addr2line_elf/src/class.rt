@@ -1,7 +1,7 @@
 //! The two classes of ELF files.
 
 ghost use Rattle.std.specs.Prelude.{◌≡◌, ◌<◌, ◌≤◌};
-ghost use Rattle.addr2line_elf.specs.ElfClasses.{word_size, section_header_size, symbol_size};
+ghost use Rattle.addr2line_elf.specs.ElfClasses.{word_size, file_header_size, section_header_size, symbol_size};
 
 /// The class of an ELF file: its addresses, offsets and sizes have 32 bits or 64 (System V ABI,
 /// "ELF Header").
@@ -21,6 +21,16 @@ impl Class {
         match self {
             Class::Elf32 => 4,
             Class::Elf64 => 8,
+        }
+    }
+
+    // The bytes of the file's header.
+    pub(crate) fn file_header_size(self) -> u64
+        ensures value { result ≡ file_header_size self }
+    {
+        match self {
+            Class::Elf32 => 52,
+            Class::Elf64 => 64,
         }
     }
 

@@ -7,6 +7,9 @@ pub(crate) const EI_CLASS: usize = 4;
 // The index of the order of bytes in the file's identification.
 pub(crate) const EI_DATA: usize = 5;
 
+// The bytes of the file's identification.
+pub(crate) const EI_NIDENT: u64 = 16;
+
 // Objects of 32 bits.
 pub(crate) const ELFCLASS32: u8 = 1;
 

@@ -8,6 +8,20 @@ use crate::elf::Elf;
 use crate::error::LoadError;
 use gimli_core_readers::{EndianBytes, RunTimeEndian, SectionId};
 
+// The sections of a main file that lookups read.
+pub(crate) const READ: [SectionId; 10] = [
+    SectionId::DebugAbbrev,
+    SectionId::DebugAddr,
+    SectionId::DebugAranges,
+    SectionId::DebugInfo,
+    SectionId::DebugLine,
+    SectionId::DebugLineStr,
+    SectionId::DebugRanges,
+    SectionId::DebugRngLists,
+    SectionId::DebugStr,
+    SectionId::DebugStrOffsets,
+];
+
 impl Elf {
     /// A section of a main file: its bytes if lookups read it, else none.
     pub fn debug_section(&self, id: SectionId) -> Result<EndianBytes<RunTimeEndian>, LoadError>
@@ -16,7 +30,7 @@ impl Elf {
         if is_read(id) {
             self.section(id.name())
         } else {
-            self.no_section()
+            Ok(self.no_section())
         }
     }
 
@@ -25,11 +39,11 @@ impl Elf {
         ensures { LoadsOrNoMemory result (split_section id self.now) }
     {
         if !is_read_split(id) {
-            return self.no_section();
+            return Ok(self.no_section());
         }
         match id.dwo_name() {
             Some(name) => self.section(name),
-            None => self.no_section(),
+            None => Ok(self.no_section()),
         }
     }
 }

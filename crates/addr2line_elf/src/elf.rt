@@ -13,9 +13,10 @@ ghost use Rattle.addr2line_elf.specs.ElfSymbols.{symbols_of};
 use crate::class::Class;
 use crate::constants::{ET_REL, SHF_COMPRESSED, SHT_NOBITS, SHT_REL, SHT_RELA};
 use crate::error::LoadError;
+use crate::file_parts::FileParts;
 use crate::headers::{FileHeader, SectionHeader};
-use crate::identification::identify;
-use crate::reading::{in_file, nothing_of};
+use crate::identification::identify_file;
+use crate::reading::ElfFile;
 use crate::symbols::{Symbols, symbol_table};
 use crate::table::{
     borrowed_contents, contents, linked_contents, parse_file_header, parse_header_at,
@@ -31,7 +32,7 @@ use std::ops::Range;
 /// An ELF file whose headers are read.
 #[derive(Debug)]
 pub struct Elf {
-    file: EndianBytes<RunTimeEndian>,
+    file: ElfFile,
     class: Class,
     file_type: u16,
     sections: Vec<SectionHeader>,
@@ -70,16 +71,20 @@ impl Elf {
     pub fn parse(alloc: Global, file: Bytes) -> Result<Elf, LoadError>
         ensures { LoadsOrNoMemory result (image_of file) }
     {
-        let (class, endian) = identify(file.as_slice())?;
-        Elf::parse_image(alloc, EndianBytes::new(file, endian), class)
+        Elf::parse_parts(alloc, FileParts::whole(alloc, file)?)
+    }
+
+    /// Reads the headers of a file of which parts are in memory. Takes memory for a list of them,
+    /// and shares the parts.
+    pub fn parse_parts(alloc: Global, parts: FileParts) -> Result<Elf, LoadError>
+        ensures { LoadsOrNoMemory result (image_of parts.bytes) }
+    {
+        let (class, endian) = identify_file(&parts)?;
+        Elf::parse_image(alloc, ElfFile { parts, endian }, class)
     }
 
     // Reads the headers of a file of a class.
-    fn parse_image(
-        alloc: Global,
-        file: EndianBytes<RunTimeEndian>,
-        class: Class,
-    ) -> Result<Elf, LoadError>
+    fn parse_image(alloc: Global, file: ElfFile, class: Class) -> Result<Elf, LoadError>
         ensures { LoadsOrNoMemory result (image_in class file) }
     {
         let header = parse_file_header(&file, class)?;
@@ -97,7 +102,7 @@ impl Elf {
     pub fn endian(&self) -> RunTimeEndian
         ensures { is_big_endian result ≡ self.now.file.is_big }
     {
-        self.file.endian()
+        self.file.endian
     }
 
     /// The class of the file.
@@ -107,11 +112,12 @@ impl Elf {
         self.class
     }
 
-    /// The bytes of the file.
-    pub fn as_bytes(&self) -> &[u8]
-        ensures { result.now ≡ self.now.file.bytes }
+    /// The bytes of the file, shared. Takes a little memory.
+    #[tactic(auto, using(crate::proofs::FilePartLemmas::all_in_range))]
+    pub fn bytes(&self) -> Result<Bytes, LoadError>
+        ensures { LoadsOrNoMemory result (Ok self.now.file.bytes) }
     {
-        self.file.as_bytes()
+        self.file.parts.share(0, self.file.parts.len())
     }
 
     /// The header of the file, read again. Takes no memory.
@@ -164,22 +170,20 @@ impl Elf {
     /// The bytes of the debugging section of a name, each with its offset in the file as
     /// identifier: none where no section has the name, or where it has no bytes in the file. Takes
     /// a little memory, and shares the bytes. It looks at each section.
-    #[tactic(auto, using(crate::proofs::Loads::of_returned, crate::proofs::Loads::of_read))]
     pub fn section(&self, name: &str) -> Result<EndianBytes<RunTimeEndian>, LoadError>
         ensures { LoadsOrNoMemory result (section_named name.now self.now) }
     {
         match self.index_of(name.as_bytes()) {
             Some(index) => self.debug_contents(index),
-            None => self.no_section(),
+            None => Ok(self.no_section()),
         }
     }
 
     // No bytes, as of a section that isn't there.
-    #[tactic(auto, using(crate::proofs::Loads::of_returned, crate::proofs::Loads::of_read))]
-    pub(crate) fn no_section(&self) -> Result<EndianBytes<RunTimeEndian>, LoadError>
-        ensures { LoadsOrNoMemory result (Ok (prefix 0 self.now.file)) }
+    pub(crate) fn no_section(&self) -> EndianBytes<RunTimeEndian>
+        ensures { result ≡ prefix 0 self.now.file }
     {
-        in_file(nothing_of(&self.file))
+        self.file.nothing()
     }
 
     /// The addresses of the first section of a name, if its end is an address of 64 bits.
@@ -196,7 +200,6 @@ impl Elf {
     /// The symbols that have a name and are defined in the file, data and functions. Takes memory
     /// for a list of all symbols, and for stretches of addresses, at most two for each symbol. It
     /// reads the section of names once and sorts the symbols.
-    #[tactic(auto, using(crate::proofs::Loads::of_returned, crate::proofs::Loads::of_read))]
     pub fn symbols(&self, alloc: Global) -> Result<Symbols, LoadError>
         ensures { LoadsOrNoMemory result (symbols_of self.now) }
     {
@@ -206,7 +209,7 @@ impl Elf {
                 let texts = linked_contents(&self.file, &self.sections, section.link)?;
                 Symbols::read(alloc, self.class, &table, texts)
             }
-            None => Ok(Symbols::none(alloc, in_file(nothing_of(&self.file))?)),
+            None => Ok(Symbols::none(alloc, self.file.nothing())),
         }
     }
 

@@ -4,12 +4,15 @@
 
 pub mod class;
 pub mod constants;
+mod coverage;
 mod debug;
 pub mod elf;
 pub mod error;
+pub mod file_parts;
 pub mod headers;
 mod identification;
 mod names;
+mod needed;
 mod reading;
 pub mod standard_numbers;
 mod stretch;
@@ -22,4 +25,6 @@ mod texts;
 
 pub use elf::Elf;
 pub use error::LoadError;
+pub use file_parts::{FilePart, FileParts, MemoryFile, PartSource};
+pub use needed::read_needed;
 pub use symbols::{Symbol, Symbols};

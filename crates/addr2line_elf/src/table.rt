@@ -1,6 +1,6 @@
 //! The table of an image's sections.
 
-ghost use Rattle.std.specs.Prelude.{◌≡◌, ◌+◌, ◌*◌, ◌<◌, ◌≤◌, [], MatchBool};
+ghost use Rattle.std.specs.Prelude.{◌≡◌, ◌*◌, ◌<◌, [], MatchOption};
 ghost use Rattle.gimli_core_readers.specs.View.{bytes_left};
 ghost use Rattle.gimli_core_readers.specs.Parsers.{value_of};
 ghost use Rattle.gimli_core_readers.specs.Repetition.{times};
@@ -8,14 +8,14 @@ ghost use Rattle.gimli_core_readers.specs.Calls.{Returns, ReturnsAsOrNoMemory};
 ghost use Rattle.gimli_core_readers.specs.ByteOrders.{is_big_endian};
 ghost use Rattle.addr2line_elf.specs.ElfClasses.{section_header_size};
 ghost use Rattle.addr2line_elf.specs.ElfHeaders.{file_header, section_header, header_at, headers_at};
-ghost use Rattle.addr2line_elf.specs.ImageLoading.{read_in, bytes_at, LoadsAsOrNoMemory, LoadsOrNoMemory};
+ghost use Rattle.addr2line_elf.specs.ImageLoading.{read_in, LoadsAsOrNoMemory, LoadsOrNoMemory};
 ghost use Rattle.addr2line_elf.specs.ElfImages.{contents, linked_contents, table, sections_of};
 
 use crate::class::Class;
 use crate::constants::{SHN_UNDEF, SHT_NOBITS};
 use crate::error::LoadError;
 use crate::headers::{FileHeader, SectionHeader};
-use crate::reading::{in_file, input_at, input_of, nothing_of, part_at};
+use crate::reading::{ElfFile, in_file};
 use bytes::Bytes;
 use gimli_core_readers::{EndianBytes, EndianSlice, Error, Reader, ReaderOffsetId, RunTimeEndian};
 use std::alloc::Global;
@@ -28,21 +28,25 @@ pub(crate) struct SectionTable {
 }
 
 // The header of the file. Takes no memory.
-#[tactic(auto, using(crate::proofs::Loads::of_returned, crate::proofs::Loads::of_read))]
-pub(crate) fn parse_file_header(
-    file: &EndianBytes<RunTimeEndian>,
-    class: Class,
-) -> Result<FileHeader, LoadError>
+#[tactic(auto, using(crate::proofs::Loads::of_returned, crate::proofs::RangeReads::file_header_read))]
+pub(crate) fn parse_file_header(file: &ElfFile, class: Class) -> Result<FileHeader, LoadError>
     ensures { LoadsOrNoMemory result (read_in file.now (file_header class)) }
 {
-    in_file(FileHeader::parse(&mut input_of(file), class))
+    let input = file.input_at(0, class.file_header_size())?;
+    in_file(file_header_in(input, class))
+}
+
+fn file_header_in(input: EndianSlice<'_, RunTimeEndian>, class: Class) -> Result<FileHeader, Error>
+    ensures { Returns result (value_of (file_header class input.entry)) }
+{
+    let mut input = input;
+    FileHeader::parse(&mut input, class)
 }
 
 // The sections that the file's header leads to.
-#[tactic(auto, using(crate::proofs::Loads::of_returned, crate::proofs::Loads::of_read))]
 pub(crate) fn parse_sections(
     alloc: Global,
-    file: &EndianBytes<RunTimeEndian>,
+    file: &ElfFile,
     class: Class,
     header: &FileHeader,
 ) -> Result<SectionTable, LoadError>
@@ -53,7 +57,7 @@ pub(crate) fn parse_sections(
     if header.table_offset == 0 {
         return Ok(SectionTable {
             headers: Vec::new(alloc),
-            names: in_file(nothing_of(file))?,
+            names: file.nothing(),
         });
     }
     if header.entry_size != class.section_header_size() {
@@ -65,7 +69,7 @@ pub(crate) fn parse_sections(
 // The headers of the table, and the section with their names.
 fn parse_table(
     alloc: Global,
-    file: &EndianBytes<RunTimeEndian>,
+    file: &ElfFile,
     class: Class,
     header: &FileHeader,
 ) -> Result<SectionTable, LoadError>
@@ -81,32 +85,33 @@ fn parse_table(
 }
 
 // The section header at an offset. Takes no memory.
-#[tactic(auto, using(crate::proofs::Loads::of_returned, crate::proofs::Loads::of_read))]
+#[tactic(auto, using(crate::proofs::Loads::of_returned, crate::proofs::RangeReads::header_read))]
 pub(crate) fn parse_header_at(
-    file: &EndianBytes<RunTimeEndian>,
+    file: &ElfFile,
     class: Class,
     offset: u64,
 ) -> Result<SectionHeader, LoadError>
     ensures { LoadsOrNoMemory result (read_in file.now (header_at class offset)) }
 {
-    in_file(read_header_at(file, class, offset))
+    let input = file.input_at(offset, u64::from(class.section_header_size()))?;
+    in_file(section_header_in(input, class))
 }
 
-fn read_header_at(
-    file: &EndianBytes<RunTimeEndian>,
+fn section_header_in(
+    input: EndianSlice<'_, RunTimeEndian>,
     class: Class,
-    offset: u64,
 ) -> Result<SectionHeader, Error>
-    ensures { Returns result (value_of (header_at class offset file.now)) }
+    ensures { Returns result (value_of (section_header class input.entry)) }
 {
-    SectionHeader::parse(&mut input_at(file, offset)?, class)
+    let mut input = input;
+    SectionHeader::parse(&mut input, class)
 }
 
 // A number of section headers, which begin at an offset.
-#[tactic(auto, using(crate::proofs::Loads::of_read))]
+#[tactic(auto, using(crate::proofs::Loads::of_read, crate::proofs::RangeReads::headers_read))]
 fn parse_all(
     alloc: Global,
-    file: &EndianBytes<RunTimeEndian>,
+    file: &ElfFile,
     class: Class,
     offset: u64,
     count: u64,
@@ -114,39 +119,39 @@ fn parse_all(
     ensures { LoadsAsOrNoMemory (λ headers. headers.items) result
         (read_in file.now (headers_at class offset count)) }
 {
-    if !has_room(file, class, offset, count) {
-        return Err(LoadError::Truncated);
+    match table_size(file, class, count) {
+        Some(size) => {
+            let input = file.input_at(offset, size)?;
+            in_file(read_all(alloc, input, class, count))
+        }
+        None => Err(LoadError::Truncated),
     }
-    in_file(read_all(alloc, file, class, offset, count))
 }
 
-// Whether a file has this many section headers from an offset on. It is checked before any memory
-// is taken, so that a false count takes none.
-fn has_room(file: &EndianBytes<RunTimeEndian>, class: Class, offset: u64, count: u64) -> bool
-    ensures { MatchBool result (offset + count * section_header_size class ≤ bytes_left file.now)
-        (bytes_left file.now < offset + count * section_header_size class) }
+// The bytes of a number of section headers, unless they are more than the file has. This is checked
+// before any memory is taken, so that a false count takes none.
+fn table_size(file: &ElfFile, class: Class, count: u64) -> Option<u64>
+    ensures { MatchOption result (bytes_left file.now < count * section_header_size class)
+        (λ size. size ≡ count * section_header_size class) }
 {
-    let len = file.as_bytes().len() as u64;
+    let len = file.len();
     let Some(size) = count.checked_mul(u64::from(class.section_header_size())) else {
-        return false;
+        return None;
     };
-    let Some(end) = size.checked_add(offset) else {
-        return false;
-    };
-    end <= len
+    if size <= len { Some(size) } else { None }
 }
 
 fn read_all(
     alloc: Global,
-    file: &EndianBytes<RunTimeEndian>,
+    input: EndianSlice<'_, RunTimeEndian>,
     class: Class,
-    offset: u64,
     count: u64,
 ) -> Result<Vec<SectionHeader>, Error>
     ensures { ReturnsAsOrNoMemory (λ headers. headers.items) result
-        (value_of (headers_at class offset count file.now)) }
+        (value_of (times count (section_header class) input.entry)) }
 {
-    read_headers(alloc, &mut input_at(file, offset)?, class, count)
+    let mut input = input;
+    read_headers(alloc, &mut input, class, count)
 }
 
 // The next section headers.
@@ -167,16 +172,15 @@ fn read_headers(
 }
 
 // The bytes of the section that an index names; none where it names no section.
-#[tactic(auto, using(crate::proofs::Loads::of_returned, crate::proofs::Loads::of_read))]
 pub(crate) fn linked_contents(
-    file: &EndianBytes<RunTimeEndian>,
+    file: &ElfFile,
     headers: &[SectionHeader],
     index: u32,
 ) -> Result<EndianBytes<RunTimeEndian>, LoadError>
     ensures { LoadsOrNoMemory result (linked_contents index headers.now file.now) }
 {
     if index == u32::from(SHN_UNDEF) {
-        return in_file(nothing_of(file));
+        return Ok(file.nothing());
     }
     match headers.get(index as usize) {
         Some(header) => contents(file, header),
@@ -185,44 +189,29 @@ pub(crate) fn linked_contents(
 }
 
 // The bytes of a section.
-#[tactic(auto, using(crate::proofs::Loads::of_returned, crate::proofs::Loads::of_read))]
 pub(crate) fn contents(
-    file: &EndianBytes<RunTimeEndian>,
+    file: &ElfFile,
     header: &SectionHeader,
 ) -> Result<EndianBytes<RunTimeEndian>, LoadError>
     ensures { LoadsOrNoMemory result (contents header.now file.now) }
 {
     if header.section_type == SHT_NOBITS {
-        return Ok(no_bytes(file.endian(), header.offset));
+        return Ok(no_bytes(file.endian, header.offset));
     }
-    in_file(part_at(file, header.offset, header.size))
+    file.part_at(header.offset, header.size)
 }
 
 // The bytes of a section, borrowed. Takes no memory.
-#[tactic(auto, using(crate::proofs::Loads::of_returned, crate::proofs::Loads::of_read))]
 pub(crate) fn borrowed_contents<'a>(
-    file: &'a EndianBytes<RunTimeEndian>,
+    file: &'a ElfFile,
     header: &SectionHeader,
 ) -> Result<EndianSlice<'a, RunTimeEndian>, LoadError>
     ensures { LoadsOrNoMemory result (contents header.now file.now) }
 {
     match header.section_type {
-        SHT_NOBITS => Ok(borrowed_nothing(file.endian(), header.offset)),
-        _ => in_file(borrowed_part(file, header.offset, header.size)),
+        SHT_NOBITS => Ok(borrowed_nothing(file.endian, header.offset)),
+        _ => file.input_at(header.offset, header.size),
     }
-}
-
-// A number of bytes from an offset on, borrowed.
-fn borrowed_part(
-    file: &EndianBytes<RunTimeEndian>,
-    offset: u64,
-    size: u64,
-) -> Result<EndianSlice<'_, RunTimeEndian>, Error>
-    ensures { Returns result (value_of (bytes_at offset size file.now)) }
-{
-    let mut part = input_at(file, offset)?;
-    part.truncate(size as usize)?;
-    Ok(part)
 }
 
 // No bytes, borrowed, at an offset of the file.

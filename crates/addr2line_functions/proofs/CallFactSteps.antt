@@ -15,7 +15,7 @@ use Rattle.addr2line_ranges.specs.UnitRanges.{RangeFact, begins_at, ends_at, has
 use Rattle.addr2line_ranges.specs.LastFacts.{LastFacts, no_facts, with_fact, last_facts, entry_ranges_by}
 use Rattle.addr2line_ranges.specs.InlinedCalls.{Naming, Call, CallFacts, no_call_facts, call_facts, call_at, call_file, is_call_line, is_call_column, number_or_0}
 use Rattle.addr2line_ranges.proofs.UnitRangeLemmas.{entry_by_list}
-use Rattle.addr2line_functions.specs.LastCallFacts.{LastCallFacts, last_of_call, last_call_facts}
+use Rattle.addr2line_functions.specs.LastCallFacts.{LastCallFacts, last_of_call, last_call_facts, with_fact_of}
 
 -- ---- one fact more
 
@@ -69,19 +69,19 @@ module _ (u : UnitInFile) (naming : Naming) where
   abbrev pub last_from : Option View → LastFacts → List RawAttribute → Result LastCallFacts Error
   last_from name last [] = Ok (record { name = name; ranges = last })
   last_from name last (a ∷ rest) =
-      and_then (naming name a) (λ more. and_then (fact_of u a) (λ f. last_from more (with_fact f last) rest))
+      and_then (naming name a) (λ more. and_then (with_fact_of u a last) (λ next. last_from more next rest))
 
   -- with one more attribute, if that holds of all facts with those that follow
-  with_fact_of : (facts : CallFacts) (rest : List RawAttribute) (name : Option View) (y : Result RangeFact Error)
+  with_one_fact : (facts : CallFacts) (rest : List RawAttribute) (name : Option View) (y : Result RangeFact Error)
       → ((g : CallFacts) → and_then (call_facts u naming g rest) (λ f. Ok (last_of_call f))
       ≡ last_from g.name (last_facts g.ranges) rest)
       → and_then (and_then (and_then y (λ fact. Ok (record { name = name; ranges = facts.ranges ++ fact ∷ [] })))
       (λ more. call_facts u naming more rest)) (λ f. Ok (last_of_call f))
-      ≡ and_then y (λ f. last_from name (with_fact f (last_facts facts.ranges)) rest)
-  with_fact_of facts rest name (Ok f) again =
+      ≡ and_then (and_then y (λ f. Ok (with_fact f (last_facts facts.ranges)))) (λ next. last_from name next rest)
+  with_one_fact facts rest name (Ok f) again =
       again (record { name = name; ranges = facts.ranges ++ f ∷ [] })
       ∙ ap (λ last. last_from name last rest) (last_facts-append facts.ranges f)
-  with_fact_of facts rest name (Err e) again = refl
+  with_one_fact facts rest name (Err e) again = refl
 
   with_name_of : (facts : CallFacts) (a : RawAttribute) (rest : List RawAttribute) (x : Result (Option View) Error)
       → ((g : CallFacts) → and_then (call_facts u naming g rest) (λ f. Ok (last_of_call f))
@@ -89,8 +89,9 @@ module _ (u : UnitInFile) (naming : Naming) where
       → and_then (and_then (and_then x (λ name. and_then (fact_of u a)
       (λ fact. Ok (record { name = name; ranges = facts.ranges ++ fact ∷ [] }))))
       (λ more. call_facts u naming more rest)) (λ f. Ok (last_of_call f))
-      ≡ and_then x (λ name. and_then (fact_of u a) (λ f. last_from name (with_fact f (last_facts facts.ranges)) rest))
-  with_name_of facts a rest (Ok name) again = with_fact_of facts rest name (fact_of u a) again
+      ≡ and_then x
+      (λ name. and_then (with_fact_of u a (last_facts facts.ranges)) (λ next. last_from name next rest))
+  with_name_of facts a rest (Ok name) again = with_one_fact facts rest name (fact_of u a) again
   with_name_of facts a rest (Err e) again = refl
 
   -- as the definition has them
@@ -111,22 +112,21 @@ module _ (u : UnitInFile) (naming : Naming) where
 
     by_first : (name : Option View) (last : LastFacts) (xs : List X) (i : ℕ) (x : X) → i < length xs → x ≡ get_or xs i x
         → last_from_place name last xs i
-        ≡ and_then (naming name (view x)) (λ more. and_then (fact_of u (view x))
-        (λ f. last_from_place more (with_fact f last) xs (i + 1)))
+        ≡ and_then (naming name (view x)) (λ more. and_then (with_fact_of u (view x) last)
+        (λ next. last_from_place more next xs (i + 1)))
     by_first name last xs i x below here =
         at_drop_more (λ (ys : List X). last_from name last (map view ys)) xs i x below
         ∙ ap (λ y. last_from name last (view y ∷ map view (drop (i + 1) xs))) (sym here)
 
     -- one step on, what all give is the same
-    pub last_from_place-more : (name more : Option View) (last next : LastFacts) (f : RangeFact) (xs : List X) (i : ℕ)
-        (x : X) (all : Result LastCallFacts Error) → i < length xs → x ≡ get_or xs i x
-        → naming name (view x) ≡ Ok more → fact_of u (view x) ≡ Ok f → next ≡ with_fact f last
-        → last_from_place name last xs i ≡ all → last_from_place more next xs (i + 1) ≡ all
-    last_from_place-more name more last next f xs i x all below here named fact is before =
-        ap (λ l. last_from_place more l xs (i + 1)) is
-        ∙ sym (ap (λ r. and_then r (λ g. last_from_place more (with_fact g last) xs (i + 1))) fact)
-        ∙ sym (ap (λ r. and_then r (λ m. and_then (fact_of u (view x))
-        (λ g. last_from_place m (with_fact g last) xs (i + 1)))) named)
+    pub last_from_place-more : (name more : Option View) (last next : LastFacts) (xs : List X) (i : ℕ) (x : X)
+        (all : Result LastCallFacts Error) → i < length xs → x ≡ get_or xs i x → naming name (view x) ≡ Ok more
+        → with_fact_of u (view x) last ≡ Ok next → last_from_place name last xs i ≡ all
+        → last_from_place more next xs (i + 1) ≡ all
+    last_from_place-more name more last next xs i x all below here named fact before =
+        sym (ap (λ r. and_then r (λ l. last_from_place more l xs (i + 1))) fact)
+        ∙ sym (ap (λ r. and_then r (λ m. and_then (with_fact_of u (view x) last)
+        (λ l. last_from_place m l xs (i + 1)))) named)
         ∙ sym (by_first name last xs i x below here) ∙ before
 
     -- a refused name is the refusal of all
@@ -135,19 +135,19 @@ module _ (u : UnitInFile) (naming : Naming) where
         → naming name (view x) ≡ Err e → last_from_place name last xs i ≡ all → all ≡ Err e
     name-refused name last e xs i x all below here refused before =
         sym before ∙ by_first name last xs i x below here
-        ∙ ap (λ r. and_then r (λ m. and_then (fact_of u (view x))
-        (λ g. last_from_place m (with_fact g last) xs (i + 1)))) refused
+        ∙ ap (λ r. and_then r (λ m. and_then (with_fact_of u (view x) last)
+        (λ l. last_from_place m l xs (i + 1)))) refused
 
     -- and so is a refused fact
     pub fact-refused : (name more : Option View) (last : LastFacts) (e : Error) (xs : List X) (i : ℕ) (x : X)
         (all : Result LastCallFacts Error) → i < length xs → x ≡ get_or xs i x
-        → naming name (view x) ≡ Ok more → fact_of u (view x) ≡ Err e → last_from_place name last xs i ≡ all
-        → all ≡ Err e
+        → naming name (view x) ≡ Ok more → with_fact_of u (view x) last ≡ Err e
+        → last_from_place name last xs i ≡ all → all ≡ Err e
     fact-refused name more last e xs i x all below here named refused before =
         sym before ∙ by_first name last xs i x below here
-        ∙ ap (λ r. and_then r (λ m. and_then (fact_of u (view x))
-        (λ g. last_from_place m (with_fact g last) xs (i + 1)))) named
-        ∙ ap (λ r. and_then r (λ g. last_from_place more (with_fact g last) xs (i + 1))) refused
+        ∙ ap (λ r. and_then r (λ m. and_then (with_fact_of u (view x) last)
+        (λ l. last_from_place m l xs (i + 1)))) named
+        ∙ ap (λ r. and_then r (λ l. last_from_place more l xs (i + 1))) refused
 
     -- after the last attribute, they are those so far
     pub last_from_place-end : (name : Option View) (last : LastFacts) (xs : List X) (i : ℕ)

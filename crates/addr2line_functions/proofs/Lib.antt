@@ -12,6 +12,8 @@ mod NestingLemmas
 pub mod CallEntrySteps
 mod OtherCallSteps
 mod NameFolds
+mod RangeAttributes
+mod NextFunctionSteps
 mod CallFactSteps
 mod ChainSteps
 pub mod NumberedCalls

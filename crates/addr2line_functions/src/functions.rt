@@ -7,15 +7,15 @@ ghost use Rattle.addr2line_names.specs.UnitFacts.{UnitInFile};
 ghost use Rattle.addr2line_ranges.specs.Functions.{functions_of_unit, function_number};
 ghost use Rattle.addr2line_ranges.specs.Searches.{AtMostProbes};
 ghost use Rattle.addr2line_functions.specs.CountedFunctions.{function_probes};
-ghost use Rattle.addr2line_functions.specs.EntryRowViews.{row_view};
-ghost use Rattle.addr2line_functions.specs.NextFunctions.{if_has_range, function_of_row, next_function, functions_from};
+ghost use Rattle.addr2line_functions.specs.NextFunctions.{if_has_range, next_function, functions_from};
 
 use crate::function::Function;
 use crate::numbered_range::{NumberedRange, number_at, range_index};
-use crate::row::{EntryRow, next_row};
+use addr2line_names::{DW_AT_high_pc, DW_AT_ranges};
 use addr2line_ranges::{Probes, RangeIndex, UnitRef, push_if_any, ranges_of_entry};
 use gimli_units_entries::{
-    Attribute, DW_TAG_subprogram, EntriesRaw, Error, Range, Reader, ReaderOffset, UnitOffset,
+    Attribute, DW_AT_low_pc, DW_TAG_subprogram, EntriesRaw, Error, Range, Reader, ReaderOffset,
+    UnitOffset,
 };
 use std::alloc::Global;
 use std::marker::Model;
@@ -90,25 +90,8 @@ fn if_has_range<O: ReaderOffset>(offset: UnitOffset<O>, ranges: Vec<Range>) -> O
     }
 }
 
-// The function of an entry with these attributes, if it is a function that has a range.
-fn function_of_row<R: Reader>(
-    alloc: Global,
-    unit: &UnitRef<'_, R>,
-    row: EntryRow<R::Offset>,
-    attributes: &[Attribute<R>],
-) -> Result<Option<Function<R::Offset>>, Error>
-    ensures { ReturnsOrNoMemory result
-        (function_of_row unit.now
-        (row_view R.view R.Offset.count row attributes.now)) }
-{
-    if row.tag != DW_TAG_subprogram {
-        return Ok(None);
-    }
-    let ranges = ranges_of_entry(alloc, unit, attributes)?;
-    Ok(if_has_range(row.offset, ranges))
-}
-
-// The function of the next entry, if it is a function that has a range.
+// The function of the next entry, if it is a function that has a range. Of a function's attributes
+// those are kept that ranges come from (DWARF 5, 2.17), in a list whose memory is used again.
 fn next_function<R: Reader>(
     alloc: Global,
     unit: &UnitRef<'_, R>,
@@ -118,8 +101,21 @@ fn next_function<R: Reader>(
     ensures { ReturnsAsOrNoMemory (λ f. (f, entries.new)) result
         (next_function R.Offset.limit unit.now entries.old) }
 {
-    let row = next_row(entries, Some(DW_TAG_subprogram), attributes)?;
-    function_of_row(alloc, unit, row, attributes)
+    let offset = entries.next_offset();
+    let Some(abbreviation) = entries.read_abbreviation()? else {
+        return Ok(None);
+    };
+    if abbreviation.tag() != DW_TAG_subprogram {
+        entries.skip_entry(&abbreviation)?;
+        return Ok(None);
+    }
+    entries.read_named_attributes(
+        abbreviation.attributes(),
+        &[DW_AT_low_pc, DW_AT_high_pc, DW_AT_ranges],
+        attributes,
+    )?;
+    let ranges = ranges_of_entry(alloc, unit, attributes)?;
+    Ok(if_has_range(offset, ranges))
 }
 
 // Skips entries up to one of a function, or one that can't be read or skipped. Returns whether an

@@ -29,7 +29,7 @@ pub use addr2line_ranges::{
     LittleEndian, Location, LocationLists, Probes, Range, RangeLists, RangeListsOffset, RangePlace,
     RawRangeListsOffset, Reader, ReaderOffsetId, RowStretch, RunTimeEndian, SectionId, Unit,
     UnitHeader, UnitOffset, UnitRange, UnitRanges, UnitRangesBuilder, UnitRef, UnitType, file_text,
-    file_text_of_bytes, is_rooted, join, ranges_of_entry,
+    file_text_of_bytes, is_rooted, join, push_if_any, ranges_of_entry, share,
 };
 pub use call::Call;
 pub use calls::{FunctionCalls, calls_of_function};

@@ -1,13 +1,14 @@
 //! The names of a unit's functions and calls, wherever they are.
 
-ghost use Rattle.std.specs.Prelude.{option_map};
+ghost use Rattle.std.specs.Prelude.{◌≡◌, false, option_map};
+ghost use Rattle.addr2line_functions.specs.NamingUnits.{PassesName};
 ghost use Rattle.gimli_units_entries.specs.Calls.{ReturnsAsOrNoMemory};
 ghost use Rattle.gimli_units_entries.specs.AttributeValues.{raw_attribute_of};
-ghost use Rattle.addr2line_names.specs.FunctionNames.{name_with, name_by_reference, most_references};
+ghost use Rattle.addr2line_functions.specs.ContextNames.{naming_from};
 
 use crate::Names;
-use addr2line_names::{HasUnit, HoldingUnit, KnownUnits};
-use gimli_units_entries::{Attribute, Error, Reader};
+use addr2line_names::{HasUnit, HoldingUnit, KnownUnits, is_naming};
+use gimli_units_entries::{Attribute, DwAt, Error, Reader};
 use std::marker::Model;
 
 /// What finds the names of a unit's functions and calls: the unit, and the units that references
@@ -29,13 +30,19 @@ impl<'a, R: Reader, U: HasUnit<R>> Model for UnitNames<'a, R, U> {
 }
 
 impl<'a, R: Reader, U: HasUnit<R>> Names<R> for UnitNames<'a, R, U> {
-    ghost naming = { λ n.
-        name_with n.holder (name_by_reference n.known most_references n.holder) };
+    ghost naming = { λ n. naming_from n.known n.holder };
+
+    #[inline(always)]
+    fn is_naming(&self, name: DwAt) -> bool
+        ensures { (result ≡ false)
+            → PassesName (naming_from self.now.known self.now.holder) name.0 }
+    {
+        is_naming(name)
+    }
 
     fn name_with(&self, found: Option<R>, attribute: &Attribute<R>) -> Result<Option<R>, Error>
         ensures { ReturnsAsOrNoMemory (option_map R.view) result
-            (name_with self.now.holder
-            (name_by_reference self.now.known most_references self.now.holder)
+            (naming_from self.now.known self.now.holder
             (option_map R.view found) (raw_attribute_of R.view R.Offset.count attribute.now)) }
     {
         self.known.name_with(&self.holder, found, attribute)

@@ -65,7 +65,7 @@ index_of e = e.after - suc (more_units e.shared)
 abbrev pub pairs_left : ℕ → BoundedRange → List UnitRange
 pairs_left from e = drop (from - index_of e) (pairs_in e.shared)
 
--- an index behind one of its pairs, which an index is not behind
+-- it has pairs from an index on, and the next index is the one after one of its pairs
 abbrev pub IsBehind : ℕ → BoundedRange → ℕ → Type 0
 IsBehind from e next = (from < e.after) × (index_of e < next) × (next ≤ e.after)
 

@@ -8,12 +8,14 @@ use Rattle.addr2line_context.specs.Error.TheVariants.{Memory}
 use Rattle.addr2line_context.specs.FirstAnswers.{SplitLoad}
 use Rattle.addr2line_context.specs.Frames.{Frame}
 use Rattle.addr2line_context.specs.AnsweredContexts.{AnsweredContext}
-use Rattle.addr2line_context.specs.FrameLoads.{IsDone, GivesDecided}
+use Rattle.addr2line_context.specs.FrameLoads.{DecidesFrames, GivesDecided}
+use Rattle.addr2line_context.specs.ResolvedUnits.{ResolvedUnit}
 use Rattle.addr2line_context.specs.SettledLookups.{frames_in, loads_in, LoadOf, answers_with_first, after_answer}
 use Rattle.addr2line_context.specs.UnitLookups.{IsPending}
+use Rattle.addr2line_context.specs.declared.frame_loads.DecidedFrames.{DecidedFrames}
 use Rattle.addr2line_context.proofs.FrameLoads.{first_load_of_frames}
 use Rattle.addr2line_split.specs.SplitLoading.{GetsFile}
-use Rattle.addr2line_loader.specs.SourceAnswers.{LoadState, frames_by_answers, AnswersLoad, AnswersLoads, MayAsk, Finds, Stops, AnswersOneOrNoMemory, AnswersAll, AnswersAllOrNoMemory, FindsAsOrNoMemory}
+use Rattle.addr2line_loader.specs.SourceAnswers.{LoadState, frames_by_answers, AnswersLoad, AnswersLoads, MayAsk, Finds, Stops, AnswersOneOrNoMemory, Decides, DecidesOrNoMemory, FindsAsOrNoMemory}
 
 abbrev ok_load : SplitLoad → Result SplitLoad Error
 ok_load load = Ok load
@@ -71,9 +73,9 @@ module _ {S : Type 0} (answers : S → List ℕ → List ℕ → Result (Option 
       pub answers_more : AnswersOneOrNoMemory answers other a mid (Ok tt) after → AnsweredTo after
       answers_more h = one_more h.0 h.1
 
-      pub stops_at : (e : Error) → AnswersOneOrNoMemory answers other a mid (Err e) after
-          → AnswersAllOrNoMemory answers c a old (Err e) after
-      stops_at e h = (h.0, by h.1)
+      pub stops_at : (us : List ResolvedUnit) (e : Error) → AnswersOneOrNoMemory answers other a mid (Err e) after
+          → DecidesOrNoMemory answers c a us old (Err e) after
+      stops_at us e h = (h.0, by h.1)
         where
           by : MayAsk answers other a mid after
               ⊎ ((file : Option DwarfFile) × AnswersLoad answers other a mid file after)
@@ -93,9 +95,9 @@ module _ {S : Type 0} (answers : S → List ℕ → List ℕ → Result (Option 
                 asks = (refl, inl refl);
               }
 
-    pub stops_before : (last mid : LoadState S) → mid ≡ last → AnsweredTo last → (e : Error) → e ≡ Memory
-        → AnswersAllOrNoMemory answers c a old (Err e) mid
-    stops_before last mid is loads e memory = (
+    pub stops_before : (us : List ResolvedUnit) (last mid : LoadState S) → mid ≡ last → AnsweredTo last → (e : Error)
+        → e ≡ Memory → DecidesOrNoMemory answers c a us old (Err e) mid
+    stops_before us last mid is loads e memory = (
       memory,
       record {
         files = loads.0;
@@ -105,25 +107,23 @@ module _ {S : Type 0} (answers : S → List ℕ → List ℕ → Result (Option 
       },
     )
 
-    pub all_answered : (last mid : LoadState S) → mid ≡ last → AnsweredTo last → (other : FileContext) → other ≡ c
-        → IsDone (frames_by_answers other a last.answers) → AnswersAll answers c a old mid
-    all_answered last mid is loads other same done =
-        subst (AnswersAll answers c a old) (sym is) (record {
+    pub all_answered : (us : List ResolvedUnit) (decided : DecidedFrames) (last mid : LoadState S) → mid ≡ last
+        → AnsweredTo last → (other : FileContext) → other ≡ c
+        → DecidesFrames us (frames_by_answers other a last.answers) decided → Decides answers c a us old decided mid
+    all_answered us decided last mid is loads other same decides =
+        subst (Decides answers c a us old decided) (sym is) (record {
           files = loads.0;
           loads = loads.1;
-          done = subst (λ x. IsDone (frames_by_answers x a last.answers)) same done;
+          decides = subst (λ x. DecidesFrames us (frames_by_answers x a last.answers) decided) same decides;
         })
 
     -- what is found then
-    pub finds_decided : {F : Type 0} (see : F → List Frame) (mid new : LoadState S) → new ≡ mid
-        → AnswersAll answers c a old mid → (r : Result F Error) → GivesDecided see r (frames_by_answers c a mid.answers)
-        → FindsAsOrNoMemory answers c a see old r new
-    finds_decided see mid new is all (Ok x) found =
-        subst (Finds answers c a old (Ok (see x))) (sym is)
-        (record { files = all.files; loads = all.loads; is_found = found })
-    finds_decided see mid new is all (Err e) found = (
-      λ other. subst (Finds answers c a old (Err e)) (sym is)
-          (record { files = all.files; loads = all.loads; is_found = found other }),
-      λ memory. subst (Stops answers c a old) (sym is)
-          (record { files = all.files; last = mid; loads = all.loads; asks = (refl, inl refl) }),
+    pub finds_decided : {F : Type 0} (see : F → List Frame) (us : List ResolvedUnit) (decided : DecidedFrames)
+        (new : LoadState S) → Decides answers c a us old decided new → (r : Result F Error)
+        → GivesDecided see r (frames_by_answers c a new.answers) → FindsAsOrNoMemory answers c a see old r new
+    finds_decided see us decided new all (Ok x) found =
+        record { files = all.files; loads = all.loads; is_found = found }
+    finds_decided see us decided new all (Err e) found = (
+      λ other. record { files = all.files; loads = all.loads; is_found = found other },
+      λ memory. record { files = all.files; last = new; loads = all.loads; asks = (refl, inl refl) },
     )

@@ -1,7 +1,7 @@
 -- What lookups of the frames of an address read, one after the other.
-use Rattle.std.proofs.Common.{arith, ◌≡◌, ◌∙◌, ◌⊎◌, inl, inr, ℕ, ◌*◌, List, Option, refl, sym, ap, subst}
+use Rattle.std.proofs.Common.{◌≡◌, ◌∙◌, ◌⊎◌, inl, inr, ℕ, List, Option, refl, sym, ap, subst}
 use Rattle.addr2line_context.specs.AnsweredContexts.{AnsweredContext}
-use Rattle.addr2line_context.specs.ContextCosts.{frame_looks, frame_search, AsksForFrames, AfterSearch}
+use Rattle.addr2line_context.specs.ContextCosts.{frame_search, AsksForFrames, AfterSearch}
 use Rattle.addr2line_context.specs.Contexts.{FileContext}
 use Rattle.addr2line_context.specs.DwarfFiles.{DwarfFile}
 use Rattle.addr2line_context.specs.FirstAnswers.{FirstAnswers}
@@ -143,35 +143,3 @@ pub search_alone : (has_memory part_has : Type 0) (a : ℕ) (old mid new : Resol
 search_alone has_memory part_has a old mid new same part after =
     subst (λ (x : ResolvedContext). AfterSearch frame_search has_memory a x new) same
     (with_memory frame_search has_memory part_has a mid new part after)
-
--- ---- looks
-
-looks_twice : (n m : ℕ) (us vs ws : List ResolvedUnit) → m ≡ n → AtMostLooks n us vs → AtMostLooks m vs ws
-    → AtMostLooks (2 * n) us ws
-looks_twice n m us vs ws same first then = record {
-  counters = then.counters ∙ first.counters;
-  probes = omega (arith, same, first.probes, then.probes);
-  more = λ k kept. then.more k (first.more k kept);
-  functions = record {
-    functions = λ k kept. then.functions.functions k (first.functions.functions k kept);
-    calls = λ f k kept. then.functions.calls f k (first.functions.calls f k kept);
-  };
-}
-
--- those of two lookups, one after the other
-pub looks_of_two : {first_has has_memory : Type 0} (a : ℕ) (old mid new : ResolvedContext)
-    → AfterSearch frame_search first_has a old mid → AfterSearch frame_search has_memory a mid new
-    → AtMostLooks (2 * frame_looks old.value a) old.units new.units
-looks_of_two a old mid new first then =
-    looks_twice (frame_looks old.value a) (frame_looks mid.value a) old.units mid.units new.units
-    (ap (λ (x : AnsweredContext). frame_looks x a) first.value) first.cost then.cost
-
--- or of one
-pub looks_of_one : {has_memory : Type 0} (a : ℕ) (old new : ResolvedContext)
-    → AfterSearch frame_search has_memory a old new → AtMostLooks (2 * frame_looks old.value a) old.units new.units
-looks_of_one a old new first = record {
-  counters = first.cost.counters;
-  probes = omega (arith, first.cost.probes);
-  more = first.cost.more;
-  functions = first.cost.functions;
-}

@@ -5,4 +5,5 @@ mod FoundPlaces
 mod FoundFrames
 mod SupplementSections
 mod FileReadLemmas
+mod AlikeFileLemmas
 mod DecompressedLoads

@@ -3,18 +3,19 @@ use Rattle.std.specs.Prelude.{◌≡◌, ℕ, Bool, List, Option, Some, None, Re
 use Rattle.std.specs.Option.{is_some}
 use Rattle.addr2line_context.specs.ResolvedUnits.{RunForRangesAlone}
 use Rattle.addr2line_context.specs.Results.{◌>>=◌}
-use Rattle.addr2line_split.specs.FileReads.{IsRead}
+use Rattle.addr2line_split.specs.FileParts.{PartialFile, bytes_if_any}
+use Rattle.addr2line_split.specs.FileReads.{AreRead, IsRead}
 use Rattle.addr2line_split.specs.ImageLoading.{LoadsAsOrNoMemory}
 use Rattle.addr2line_split.specs.LoadError.{LoadError}
 use Rattle.addr2line_loader.specs.LoadedFiles.{LoadedFile, loaded_file}
 use Rattle.addr2line_loader.specs.ResolvedFiles.{ResolvedFile}
 
 -- what was read of a file, if there is one
-abbrev pub read_if_any : Option (Result (List ℕ) LoadError) → Result (Option (List ℕ)) LoadError
+abbrev pub read_if_any : {A : Type 0} → Option (Result A LoadError) → Result (Option A) LoadError
 read_if_any None = Ok None
 read_if_any (Some read) = do
-  bytes ← read
-  Ok (Some bytes)
+  file ← read
+  Ok (Some file)
 
 -- reading a file, if there is one, gives this
 abbrev pub IsReadIfAny : Bool → Result (Option (List ℕ)) LoadError → Type 0
@@ -24,21 +25,29 @@ IsReadIfAny has_file result =
     × IfSome read IsRead
     × (result ≡ read_if_any read)
 
--- the file that was read, with its supplement
-abbrev pub file_of_reads : Result (List ℕ) LoadError → Result (Option (List ℕ)) LoadError
+-- the same of the parts of a file
+abbrev pub AreReadIfAny : Bool → Result (Option PartialFile) LoadError → Type 0
+AreReadIfAny has_file result =
+    (read : Option (Result PartialFile LoadError))
+    × (is_some read ≡ has_file)
+    × IfSome read AreRead
+    × (result ≡ read_if_any read)
+
+-- the file whose parts were read, with its supplement
+abbrev pub file_of_reads : Result PartialFile LoadError → Result (Option PartialFile) LoadError
     → Result LoadedFile LoadError
 file_of_reads image supplement = do
-  bytes ← image
+  file ← image
   more ← supplement
-  loaded_file bytes more
+  loaded_file file.bytes (bytes_if_any more)
 
--- A file is read, then its supplement, if there is one, and both are loaded. Lines are read only
--- where a unit's ranges are those of its lines.
+-- The parts of a file that a loader needs are read, then those of its supplement, if there is one,
+-- and both are loaded. Lines are read only where a unit's ranges are those of its lines.
 pub record LoadsFiles (has_supplement : Bool) (result : Result ResolvedFile LoadError) : Type 0
   where
-    pub image : Result (List ℕ) LoadError
-    pub supplement : Result (Option (List ℕ)) LoadError
-    pub image_is_read : IsRead image
-    pub supplement_is_read : IsReadIfAny has_supplement supplement
+    pub image : Result PartialFile LoadError
+    pub supplement : Result (Option PartialFile) LoadError
+    pub image_is_read : AreRead image
+    pub supplement_is_read : AreReadIfAny has_supplement supplement
     pub loads : LoadsAsOrNoMemory (λ f. f.file) result (file_of_reads image supplement)
     pub lines : IfOk result (λ f. RunForRangesAlone f.units)

@@ -1,6 +1,7 @@
 pub mod LoadedFiles
 pub mod ResolvedFiles
 pub mod FileLoads
+pub mod AlikeFiles
 pub mod FileRanges
 pub mod DecompressedFiles
 pub mod SymbolFiles

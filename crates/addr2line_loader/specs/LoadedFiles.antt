@@ -68,26 +68,26 @@ abbrev pub shared_context : DwarfFile → Result SharedContext LoadError
 shared_context file = context_over (with_shared_tables file)
 
 -- the symbols of an image, and the context over its sections
-pub record FileParts : Type 0 where
+pub record ImageParts : Type 0 where
   pub symbols : List NamedSymbol
   pub debug : SharedContext
 
 -- Those of an image whose sections are read. Refused by the symbols, by the supplement if there is
 -- one, or by the debugging information, in this order.
-abbrev pub parts_with : Image → DwarfFile → Option (List ℕ) → Result FileParts LoadError
+abbrev pub parts_with : Image → DwarfFile → Option (List ℕ) → Result ImageParts LoadError
 parts_with image main supplement = do
   symbols ← symbols_of image
   debug ← and_then (with_supplement_if_any supplement main) shared_context
   Ok (record { symbols = symbols; debug = debug })
 
 -- those of an image, or, before all else, the first refusal of a section
-abbrev pub parts_of : Image → Option (List ℕ) → Result FileParts LoadError
+abbrev pub parts_of : Image → Option (List ℕ) → Result ImageParts LoadError
 parts_of image supplement = do
   main ← main_file image
   parts_with image main supplement
 
 -- before all lookups
-abbrev pub file_of_parts : Image → FileParts → LoadedFile
+abbrev pub file_of_parts : Image → ImageParts → LoadedFile
 file_of_parts image parts = record {
   image = image;
   symbols = parts.symbols;

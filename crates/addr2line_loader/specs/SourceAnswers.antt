@@ -1,5 +1,5 @@
 -- Lookups of frames whose loads are answered by the split files of a source (DWARF 5, 7.3.2).
-use Rattle.std.specs.Prelude.{◌≡◌, ◌≢◌, ◌⊎◌, ℕ, ◌*◌, List, Option, Result, Ok, Err}
+use Rattle.std.specs.Prelude.{◌≡◌, ◌≢◌, ◌⊎◌, ℕ, List, Option, Result, Ok, Err}
 use Rattle.std.specs.List.{FoldsTo}
 use Rattle.addr2line_context.specs.ContextCosts.{frame_looks, AsksForFrames}
 use Rattle.addr2line_context.specs.ContextNames.{naming_in}
@@ -12,8 +12,10 @@ use Rattle.addr2line_context.specs.Frames.{Frame}
 use Rattle.addr2line_context.specs.LookupCosts.{AtMostLooks}
 use Rattle.addr2line_context.specs.Lookups.{frames, answer_load}
 use Rattle.addr2line_context.specs.PassedUnits.{KeepsAskedFunctions}
+use Rattle.addr2line_context.specs.ResolvedUnits.{ResolvedUnit}
 use Rattle.addr2line_context.specs.SettledLookups.{frames_in}
-use Rattle.addr2line_context.specs.FrameLoads.{IsDone}
+use Rattle.addr2line_context.specs.FrameLoads.{IsDone, DecidesFrames}
+use Rattle.addr2line_context.specs.declared.frame_loads.DecidedFrames.{DecidedFrames}
 use Rattle.addr2line_split.specs.SplitLoading.{GetsFile}
 use Rattle.addr2line_loader.specs.LoadedFiles.{LoadedFile}
 use Rattle.addr2line_loader.specs.ResolvedFiles.{ResolvedFile, ReadsForFrames, answered_context}
@@ -72,16 +74,18 @@ module _ {S : Type 0} (answers : S → List ℕ → List ℕ → Result (Option 
       (e ≡ Memory)
       × (MayAsk before after ⊎ ((file : Option DwarfFile) × AnswersLoad before file after))
 
-  -- all loads are answered, so that the lookup waits for no other
-  pub record AnswersAll (before after : LoadState S) : Type 0 where
+  -- all loads are answered, and the lookup is decided in these units; it waits for no other
+  pub record Decides (us : List ResolvedUnit) (before : LoadState S) (decided : DecidedFrames)
+      (after : LoadState S) : Type 0 where
     pub files : List (Option DwarfFile)
     pub loads : AnswersLoads before files after
-    pub done : IsDone (frames_by_answers c a after.answers)
+    pub decides : DecidesFrames us (frames_by_answers c a after.answers) decided
 
   -- or out of memory
-  abbrev pub AnswersAllOrNoMemory : LoadState S → Result (Unit {0}) Error → LoadState S → Type 0
-  AnswersAllOrNoMemory before (Ok done) after = AnswersAll before after
-  AnswersAllOrNoMemory before (Err e) after = (e ≡ Memory) × Stops before after
+  abbrev pub DecidesOrNoMemory : List ResolvedUnit → LoadState S → Result DecidedFrames Error
+      → LoadState S → Type 0
+  DecidesOrNoMemory us before (Ok decided) after = Decides us before decided after
+  DecidesOrNoMemory us before (Err e) after = (e ≡ Memory) × Stops before after
 
   -- what the lookup finds, or out of memory; `see` is what a contract sees of frames
   abbrev pub FindsAsOrNoMemory : {F : Type 0} → (F → List Frame) → LoadState S → Result F Error
@@ -105,7 +109,7 @@ pub record SourceFindsFrames {S F : Type 0}
 
 -- The same with what is kept of the file's units. Unless it is out of memory, the functions of the
 -- units that the lookup asks are kept, but of one whose load needs an answer. Where the frames are
--- found without an answer, it takes no more looks at what is kept than two lookups in a context.
+-- found without an answer, it takes no more looks at what is kept than a lookup in a context.
 pub record AfterFrames {S F : Type 0}
     (answers : S → List ℕ → List ℕ → Result (Option (List ℕ)) Error → S → Type 0) (a : ℕ)
     (see : F → List Frame) (old : ResolvedFile) (source : S) (result : Result F Error)
@@ -115,4 +119,4 @@ pub record AfterFrames {S F : Type 0}
   pub asked : result ≢ Err Memory
       → KeepsAskedFunctions (AsksForFrames (answered_context new.file) a) new.units
   pub cost : IsDone (frames_in (answered_context old.file) a)
-      → AtMostLooks (2 * frame_looks (answered_context old.file) a) old.units new.units
+      → AtMostLooks (frame_looks (answered_context old.file) a) old.units new.units

@@ -5,7 +5,7 @@ ghost use Rattle.addr2line_loader.specs.SourceAnswers.{AfterFrames};
 
 use crate::answers::answer_loads;
 use crate::loader::Loader;
-use addr2line_context::frame_loads::find_decided_frames;
+use addr2line_context::frame_loads::lend_frames;
 use addr2line_context::{Error, FrameIter};
 use addr2line_split::{ImageReader, SplitSource};
 use std::alloc::Global;
@@ -28,7 +28,7 @@ impl Loader {
         ensures* after { sem 𝓛 (Rests the_row self.entry (λ left. AfterFrames S.answers probe
             frames_left self.old source.old result left source.new)) }
     {
-        answer_loads(alloc, &mut self.context, probe, source)?;
-        find_decided_frames(&mut self.context, probe)
+        let decided = answer_loads(alloc, &mut self.context, probe, source)?;
+        lend_frames(&self.context, decided)
     }
 }

@@ -10,6 +10,7 @@ mod frames;
 pub mod loader;
 pub mod loads;
 pub mod location_range;
+pub mod part_laws;
 mod parts;
 mod sections;
 pub mod stretches;

@@ -1,6 +1,6 @@
 //! A loader, and what it finds without split files.
 
-ghost use Rattle.std.specs.Prelude.{◌≡◌, ◌≢◌, Ok, Err, IfOk, option_map};
+ghost use Rattle.std.specs.Prelude.{◌≡◌, ◌≢◌, Ok, Err, IfErr, IfOk, option_map};
 ghost use Rattle.addr2line_context.specs.BorrowedLocations.{location_value};
 ghost use Rattle.addr2line_context.specs.Calls.{ReturnsAs, ReturnsAsOrNoMemory};
 ghost use Rattle.addr2line_context.specs.ContextCosts.{AsksBetween, AsksForPlace};
@@ -10,7 +10,9 @@ ghost use Rattle.addr2line_context.specs.KeptUnits.{KeepsAsked};
 ghost use Rattle.addr2line_context.specs.ResolvedUnits.{RunForRangesAlone};
 ghost use Rattle.addr2line_split.specs.ElfImages.{section_range};
 ghost use Rattle.addr2line_split.specs.ElfSymbols.{symbol_at};
+ghost use Rattle.addr2line_split.specs.FileParts.{bytes_if_any};
 ghost use Rattle.addr2line_split.specs.ImageLoading.{LoadsAsOrNoMemory};
+ghost use Rattle.addr2line_split.specs.LoadError.TheVariants as load;
 ghost use Rattle.addr2line_loader.specs.FileRanges.{left_in};
 ghost use Rattle.addr2line_loader.specs.LoadedFiles.{loaded_file, range_of, symbol_name};
 ghost use Rattle.addr2line_loader.specs.ResolvedFiles.{AfterPlace, answered_context};
@@ -18,7 +20,7 @@ ghost use Rattle.addr2line_loader.specs.ResolvedFiles.{AfterPlace, answered_cont
 use crate::location_range::LoaderRangeIter;
 use crate::parts::{Parts, SharedContext, parts_of};
 use addr2line_context::{Context, Dwarf, Error, Location, Range, RangeWalk};
-use addr2line_split::{Elf, ImageReader, LoadError, Symbol, Symbols};
+use addr2line_split::{Elf, FileParts, ImageReader, LoadError, Symbol, Symbols};
 use bytes::Bytes;
 use std::alloc::Global;
 use std::marker::Model;
@@ -78,7 +80,22 @@ impl Loader {
         ensures file { LoadsAsOrNoMemory (λ l. l.file) result (loaded_file image supplement) }
         ensures lines { IfOk result (λ l. RunForRangesAlone l.units) }
     {
-        let elf = Elf::parse(alloc, image)?;
+        let image = FileParts::whole(alloc, image)?;
+        let supplement = whole_if_any(alloc, supplement)?;
+        Loader::from_parts(alloc, image, supplement)
+    }
+
+    /// The same of files of which the parts that a loader needs are in memory.
+    pub fn from_parts(
+        alloc: Global,
+        image: FileParts,
+        supplement: Option<FileParts>,
+    ) -> Result<Loader, LoadError>
+        ensures file { LoadsAsOrNoMemory (λ l. l.file) result
+            (loaded_file image.bytes (bytes_if_any supplement)) }
+        ensures lines { IfOk result (λ l. RunForRangesAlone l.units) }
+    {
+        let elf = Elf::parse_parts(alloc, image)?;
         let Parts { symbols, debug } = parts_of(alloc, &elf, supplement)?;
         let SharedContext { sections, context } = debug;
         Ok(Loader {
@@ -166,5 +183,16 @@ impl Loader {
             begin: range.start,
             end: range.end,
         })
+    }
+}
+
+// All bytes of a file, if there is one.
+fn whole_if_any(alloc: Global, bytes: Option<Bytes>) -> Result<Option<FileParts>, LoadError>
+    ensures bytes { IfOk result (λ file. bytes_if_any file ≡ bytes) }
+    ensures memory { IfErr result (λ e. e ≡ load.Memory) }
+{
+    match bytes {
+        Some(bytes) => Ok(Some(FileParts::whole(alloc, bytes)?)),
+        None => Ok(None),
     }
 }

@@ -6,13 +6,13 @@ ghost use Rattle.addr2line_context.specs.AnsweredContexts.{HasNoAnswers};
 ghost use Rattle.addr2line_context.specs.Error.TheVariants.{Memory};
 ghost use Rattle.addr2line_context.specs.ResolvedUnits.{RunForRangesAlone};
 ghost use Rattle.addr2line_context.specs.Results.{and_then};
+ghost use Rattle.addr2line_split.specs.FileParts.{bytes_if_any};
 ghost use Rattle.addr2line_split.specs.ImageLoading.{LoadsAsOrNoMemory};
 ghost use Rattle.addr2line_loader.specs.LoadedFiles.{with_supplement_if_any, with_shared_tables, parts_with, parts_of, context_over, shared_context};
 
 use crate::sections::{add_supplement, main_sections};
 use addr2line_context::{AbbreviationsCacheStrategy, Context, Dwarf, Error, Reader};
-use addr2line_split::{Elf, ImageReader, LoadError, Symbols};
-use bytes::Bytes;
+use addr2line_split::{Elf, FileParts, ImageReader, LoadError, Symbols};
 use std::alloc::Global;
 use std::rc::Rc;
 
@@ -34,7 +34,7 @@ pub(crate) struct Parts {
 pub(crate) fn parts_of(
     alloc: Global,
     elf: &Elf,
-    supplement: Option<Bytes>,
+    supplement: Option<FileParts>,
 ) -> Result<Parts, LoadError>
     ensures parts { LoadsAsOrNoMemory (λ p. record {
       symbols = p.symbols;
@@ -42,7 +42,7 @@ pub(crate) fn parts_of(
         sections = p.debug.sections.value;
         context = p.debug.context.value.plain;
       };
-    }) result (parts_of elf.now supplement) }
+    }) result (parts_of elf.now (bytes_if_any supplement)) }
     ensures answers { IfOk result (λ p. HasNoAnswers p.debug.context.value) }
     ensures lines { IfOk result (λ p. RunForRangesAlone p.debug.context.units) }
 {
@@ -57,7 +57,7 @@ fn parts_with(
     alloc: Global,
     elf: &Elf,
     main: Dwarf<ImageReader>,
-    supplement: Option<Bytes>,
+    supplement: Option<FileParts>,
 ) -> Result<Parts, LoadError>
     ensures parts { LoadsAsOrNoMemory (λ p. record {
       symbols = p.symbols;
@@ -65,7 +65,7 @@ fn parts_with(
         sections = p.debug.sections.value;
         context = p.debug.context.value.plain;
       };
-    }) result (parts_with elf.now main.file supplement) }
+    }) result (parts_with elf.now main.file (bytes_if_any supplement)) }
     ensures answers { IfOk result (λ p. HasNoAnswers p.debug.context.value) }
     ensures lines { IfOk result (λ p. RunForRangesAlone p.debug.context.units) }
 {
@@ -82,11 +82,11 @@ fn parts_with(
 fn context_with(
     alloc: Global,
     main: Dwarf<ImageReader>,
-    supplement: Option<Bytes>,
+    supplement: Option<FileParts>,
 ) -> Result<SharedContext<ImageReader>, LoadError>
     ensures context { LoadsAsOrNoMemory
         (λ c. record { sections = c.sections.value; context = c.context.value.plain }) result
-        (and_then (with_supplement_if_any supplement main.file) shared_context) }
+        (and_then (with_supplement_if_any (bytes_if_any supplement) main.file) shared_context) }
     ensures answers { IfOk result (λ c. HasNoAnswers c.context.value) }
     ensures lines { IfOk result (λ c. RunForRangesAlone c.context.units) }
 {

@@ -19,8 +19,9 @@ use Rattle.addr2line_unit.specs.ResolvedUnits.{ResolvedUnit, AnsweredUnit, value
 use Rattle.addr2line_unit.proofs.FunctionParses.{calls_with_functions, calls_with_calls, calls_are_read}
 use Rattle.addr2line_unit.specs.FirstAnswers.{SplitLoad}
 use Rattle.addr2line_unit.specs.ProbedLists.{ProbeCount}
+use Rattle.addr2line_unit.specs.ContextNames.{naming_from}
 use Rattle.addr2line_lookups.specs.Preloads.{numbered_load, load_at}
-use Rattle.addr2line_lookups.specs.KeptCalls.{facts_of, known_among, naming_from, kept_calls_of, calls_among, HoldsCalls, HoldCalls, LeavesCallsOf, LeavesCalls}
+use Rattle.addr2line_lookups.specs.KeptCalls.{facts_of, known_among, kept_calls_of, calls_among, HoldsCalls, HoldCalls, LeavesCallsOf, LeavesCalls}
 use Rattle.addr2line_lookups.specs.FunctionPlaces.{HasFunction, HasFunctionAt, KeepsCallsAt, count_of_unit, count_at, chain_of_any, chain_of}
 use Rattle.addr2line_lookups.proofs.UnitTurns.{set_here as put_here}
 

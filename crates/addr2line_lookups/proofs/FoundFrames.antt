@@ -15,9 +15,10 @@ use Rattle.addr2line_unit.specs.CallNumbers.{calls_of_numbers}
 use Rattle.addr2line_unit.specs.KeptFunctions.{function_at_number, frames_by_numbers}
 use Rattle.addr2line_unit.specs.ResolvedUnits.{ResolvedUnit, AnsweredUnit, value_of_unit, plain_unit, main_unit, first_answer, unit_of_functions, functions_of, row_or_refusal, if_kept, KeepsLines}
 use Rattle.addr2line_unit.specs.LineIndexes.{CountedLines, counted_lines}
+use Rattle.addr2line_unit.specs.ContextNames.{naming_from}
 use Rattle.addr2line_lookups.specs.declared.frame_place.FramePlace.{FramePlace}
 use Rattle.addr2line_lookups.specs.KeptUnits.{KeepsAt, row_of_unit, row_at_number}
-use Rattle.addr2line_lookups.specs.KeptCalls.{naming_from, kept_calls_of}
+use Rattle.addr2line_lookups.specs.KeptCalls.{kept_calls_of}
 use Rattle.addr2line_lookups.specs.FunctionPlaces.{function_of_answered, function_of_any, function_with_calls_at, kept_function_at, chain_of_any, chain_of, HoldsFunction, FindsFunction}
 use Rattle.addr2line_lookups.specs.FramePlaces.{frames_of_answered, frames_of_any, frames_at_number, place_if_any, frames_in_unit, frames_in_any, frames_at_place, HoldsFrames, FindsFrames, LendsFrames}
 

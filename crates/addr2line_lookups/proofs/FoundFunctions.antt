@@ -13,9 +13,10 @@ use Rattle.addr2line_unit.specs.EntryReferences.{KnownUnits, HoldingUnit}
 use Rattle.addr2line_unit.specs.CallNumbers.{calls_of_numbers}
 use Rattle.addr2line_unit.specs.KeptFunctions.{kept_at, function_in, number_in, function_with, function_at_number, FindsChain}
 use Rattle.addr2line_unit.specs.ResolvedUnits.{ResolvedUnit, AnsweredUnit, value_of_unit, main_unit, first_answer, unit_of_functions, functions_of, calls_of, IsKeptOf}
+use Rattle.addr2line_unit.specs.ContextNames.{naming_from}
 use Rattle.addr2line_unit.proofs.NumberedCalls.{numbers_of_calls}
 use Rattle.addr2line_unit.proofs.RangeNumbers.{function_of_number}
-use Rattle.addr2line_lookups.specs.KeptCalls.{known_among, naming_from, calls_among, HoldsCalls}
+use Rattle.addr2line_lookups.specs.KeptCalls.{known_among, calls_among, HoldsCalls}
 use Rattle.addr2line_lookups.specs.FunctionPlaces.{function_number_at, number_of_any, calls_of_any, function_calls_at, function_of_answered, function_of_any, function_with_calls_at, kept_calls_at, HoldsChain, FindsCalls, HoldsFunction}
 use Rattle.addr2line_lookups.proofs.CallsLeft.{known_same}
 

@@ -11,8 +11,9 @@ use Rattle.addr2line_unit.specs.Lookups.{first_output, has_frames, is_there}
 use Rattle.addr2line_unit.specs.UnitRange.{UnitRange}
 use Rattle.addr2line_unit.specs.EntryReferences.{KnownUnits, HoldingUnit}
 use Rattle.addr2line_unit.specs.ResolvedUnits.{ResolvedUnit, AnsweredUnit, value_of_unit, main_unit, first_answer, unit_of_functions}
+use Rattle.addr2line_unit.specs.ContextNames.{naming_from}
 use Rattle.addr2line_lookups.specs.Preloads.{load_at}
-use Rattle.addr2line_lookups.specs.KeptCalls.{known_among, naming_from, HoldCalls}
+use Rattle.addr2line_lookups.specs.KeptCalls.{known_among, HoldCalls}
 use Rattle.addr2line_lookups.specs.FramePlaces.{frames_of_answered, frames_of_any, frames_at_number}
 use Rattle.addr2line_lookups.specs.UnitLookups.{unless_waiting, ask_if_any, ask_at, first_asked, IsPending, unit_with, unit_of_answered, unit_if_any, unit_at_number, FoundUnit}
 use Rattle.addr2line_lookups.specs.declared.frame_place.FramePlace.{FramePlace}

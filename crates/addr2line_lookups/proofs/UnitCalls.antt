@@ -9,7 +9,7 @@ use Rattle.addr2line_unit.specs.EntryReferences.{KnownUnits, HoldingUnit}
 use Rattle.addr2line_unit.specs.KeptFunctions.{count_of_functions}
 use Rattle.addr2line_unit.specs.FirstAnswers.{SplitLoad, FirstAnswer, load_of}
 use Rattle.addr2line_unit.specs.ResolvedUnits.{AnsweredUnit, ResolvedUnit, main_unit, undecided, pending_load, first_with, with_unit_answer, first_answer, unit_of_functions, functions_of, calls_of}
-use Rattle.addr2line_lookups.specs.KeptCalls.{naming_from}
+use Rattle.addr2line_unit.specs.ContextNames.{naming_from}
 use Rattle.addr2line_lookups.specs.UnitParses.{check_functions_of, check_calls_of, check_call_of, refusal_of}
 
 -- what holds in any case

@@ -10,8 +10,8 @@ use Rattle.addr2line_unit.specs.Lookups.{has_frames}
 use Rattle.addr2line_unit.specs.EntryReferences.{KnownUnits}
 use Rattle.addr2line_unit.specs.KeptFunctions.{function_at_number, frames_by_numbers}
 use Rattle.addr2line_unit.specs.ResolvedUnits.{ResolvedUnit, AnsweredUnit, main_unit, first_answer, unit_of_functions, functions_of}
+use Rattle.addr2line_unit.specs.ContextNames.{naming_from}
 use Rattle.addr2line_lookups.specs.KeptUnits.{KeepsAt}
-use Rattle.addr2line_lookups.specs.KeptCalls.{naming_from}
 use Rattle.addr2line_lookups.specs.declared.frame_place.FramePlace.{FramePlace}
 
 -- ---- what a unit answers

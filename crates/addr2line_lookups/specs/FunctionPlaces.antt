@@ -9,7 +9,8 @@ use Rattle.addr2line_unit.specs.EntryReferences.{KnownUnits}
 use Rattle.addr2line_unit.specs.CallNumbers.{calls_of_numbers}
 use Rattle.addr2line_unit.specs.KeptFunctions.{kept_at, number_in, function_at_number}
 use Rattle.addr2line_unit.specs.ResolvedUnits.{ResolvedUnit, AnsweredUnit, main_unit, first_answer, unit_of_functions, functions_of}
-use Rattle.addr2line_lookups.specs.KeptCalls.{naming_from, calls_among}
+use Rattle.addr2line_unit.specs.ContextNames.{naming_from}
+use Rattle.addr2line_lookups.specs.KeptCalls.{calls_among}
 
 -- ---- what a unit answers
 

@@ -4,10 +4,10 @@ use Rattle.addr2line_unit.specs.Error.{Error}
 use Rattle.addr2line_unit.specs.Results.{◌>>=◌}
 use Rattle.addr2line_unit.specs.UnitFacts.{UnitFacts}
 use Rattle.addr2line_unit.specs.Functions.{functions_of_unit}
-use Rattle.addr2line_unit.specs.InlinedCalls.{FunctionCalls, Naming}
-use Rattle.addr2line_unit.specs.EntryReferences.{KnownUnits, HoldingUnit}
+use Rattle.addr2line_unit.specs.InlinedCalls.{FunctionCalls}
+use Rattle.addr2line_unit.specs.EntryReferences.{KnownUnits}
 use Rattle.addr2line_unit.specs.OrderedUnits.{AreKnownInOrder}
-use Rattle.addr2line_unit.specs.FunctionNames.{name_with, name_by_reference, most_references}
+use Rattle.addr2line_unit.specs.ContextNames.{naming_from}
 use Rattle.addr2line_unit.specs.KeptFunctions.{kept_at}
 use Rattle.addr2line_unit.specs.ResolvedUnits.{ResolvedUnit, AnsweredUnit, main_unit, first_answer, unit_of_functions, calls_of, IsKeptOf}
 
@@ -21,10 +21,6 @@ facts_of u = u.value.unit.facts
 abbrev pub known_among : List ResolvedUnit → List UnitFacts → KnownUnits
 known_among us supplement_units =
     record { units = map facts_of us; supplement_units = supplement_units }
-
--- how the names of the functions and calls of a unit are found among them
-abbrev pub naming_from : KnownUnits → HoldingUnit → Naming
-naming_from known h = name_with h (name_by_reference known most_references h)
 
 -- ---- calls
 

@@ -9,8 +9,9 @@ use Rattle.addr2line_unit.specs.InlinedCalls.{calls_of_function}
 use Rattle.addr2line_unit.specs.EntryReferences.{KnownUnits}
 use Rattle.addr2line_unit.specs.KeptFunctions.{count_of_functions}
 use Rattle.addr2line_unit.specs.ResolvedUnits.{AnsweredUnit, ResolvedUnit, value_of_unit, main_unit, first_answer, unit_of_functions, functions_of, with_unit_answer}
+use Rattle.addr2line_unit.specs.ContextNames.{naming_from}
 use Rattle.addr2line_lookups.specs.KeptUnits.{KeepsFunctionList, KeepsFunctionCalls, KeepsFunctionsAt}
-use Rattle.addr2line_lookups.specs.KeptCalls.{naming_from, calls_among}
+use Rattle.addr2line_lookups.specs.KeptCalls.{calls_among}
 
 -- ---- one unit
 

@@ -2,7 +2,7 @@
 use Rattle.std.proofs.Common.{◌≡◌, ℕ, ◌-◌, ◌<◌, Bool, true, false, ◌||◌, List, [], ◌∷◌, length, get_or, take, drop, map, Option, Some, None, Result, Ok, Err, refl, sym, ap, subst, ◌∙◌, arith, length-drop}
 use Rattle.std.specs.Prelude.{All}
 use Rattle.std.specs.List.{filter_map, last_or, cons_option}
-use Rattle.std.proofs.lemmas.List.{at_drop_more, take_all}
+use Rattle.std.proofs.lemmas.List.{append-nil, at_drop_more, take_all}
 use Rattle.std.proofs.lemmas.List.Elements.{All-head, All-tail}
 use Rattle.gimli_dwarf.specs.Error.{Error}
 use Rattle.gimli_dwarf.specs.Repetition.{Listing, prepend, fault_of}
@@ -13,7 +13,7 @@ use Rattle.gimli_dwarf.specs.AttributeValues.{RawValue, RawAttribute}
 use Rattle.gimli_dwarf.specs.UnitFacts.{is_name, value_of_kind, any_value}
 use Rattle.addr2line_names.specs.EntryReferences.{HoldingUnit}
 use Rattle.addr2line_names.specs.EntryNamings.{EntryNaming, by_name, by_reference, nameless, is_linkage_name, is_reference, text_of, first_of, attribute_and_rest, attributes_from, name_or_naming, reference_or_nameless, reference_or, linkage_name_or, naming_with}
-use Rattle.addr2line_names.specs.PassedAttributes.{IsNoName, Passes}
+use Rattle.addr2line_names.specs.PassedAttributes.{IsNoName, Passes, PassesToFault}
 
 -- ---- attributes laid end to end
 
@@ -28,7 +28,7 @@ attributes_first limit s ss w after a h =
     ap (λ (r : Result (RawAttribute × Walk) Error). attribute_and_rest r (attributes_from limit ss)) h
 
 -- it can't
-attributes_refused : (limit : ℕ) (s : Attribute) (ss : List Attribute) (w : Walk) (e : Error) → value limit s w ≡ Err e
+pub attributes_refused : (limit : ℕ) (s : Attribute) (ss : List Attribute) (w : Walk) (e : Error) → value limit s w ≡ Err e
     → attributes_from limit (s ∷ ss) w ≡ record { items = []; ending = Err e }
 unfolding attributes_from
 attributes_refused limit s ss w e h =
@@ -136,6 +136,10 @@ module _ (limit : ℕ) (h : HoldingUnit) where
       ap (λ (o : Option View). linkage_name_or (first_of (cons_option o (filter_map linkage_name l.items))) (fault_of l)
       (naming_and_more found (filter_map plain_name (a ∷ l.items)) (filter_map reference (a ∷ l.items)))) is
 
+  -- a fault after some attributes
+  abbrev at_fault : Error → List RawAttribute → Listing Walk RawAttribute
+  at_fault e items = record { items = items; ending = Err e }
+
   abbrev ok_name : Option View → Result (Option View) Error
   ok_name name = Ok name
 
@@ -174,6 +178,13 @@ module _ (limit : ℕ) (h : HoldingUnit) where
   passed-naming found all others w new p =
       sym (ap (naming_from found) p.same
       ∙ naming_from-passed found p.passed (attributes_from limit others new) p.nameless)
+
+  -- a fault after them is that of all
+  pub passed-fault : (found : EntryNaming) (all : List Attribute) (w : Walk) (e : Error) (whole : Result EntryNaming Error)
+      → PassesToFault limit all w e → naming_from found (attributes_from limit all w) ≡ whole → whole ≡ Err e
+  passed-fault found all w e whole p before =
+      sym before ∙ ap (naming_from found) (p.same ∙ ap (at_fault e) (sym (append-nil p.passed)))
+      ∙ naming_from-passed found p.passed (at_fault e []) p.nameless
 
   -- ---- from the first of the others on
 
@@ -246,6 +257,23 @@ module _ (limit : ℕ) (h : HoldingUnit) where
         naming_from-more found next first (map view (drop 1 xs)) others w after new a o whole reads gives none takes
         (subst (λ (ys : List X). Passes limit (map view ys) after others new) (rest_is xs) passes)
         (with_first found xs d w whole some before)
+
+    -- a fault among the attributes that are passed after it is that of all
+    pub naming_of_left-fault :
+        (found : EntryNaming) (xs : List X) (d : X) (w after : Walk) (a : RawAttribute) (o : Option View) (e : Error)
+        (whole : Result EntryNaming Error) → 0 < length xs
+        → value limit (view (get_or xs 0 d)) w ≡ Ok (a, after) → ok_name (linkage_name a) ≡ ok_name o → o ≡ None
+        → PassesToFault limit (map view (take (length xs - 1) (drop 1 xs))) after e
+        → naming_from found (attributes_from limit (map view xs) w) ≡ whole → whole ≡ Err e
+    naming_of_left-fault found xs d w after a o e whole some reads gives none p before =
+        let first = view (get_or xs 0 d) in
+        let ss = map view (drop 1 xs) in
+        let no_name : linkage_name a ≡ None = cc in
+        passed-fault (naming_with h found a) ss after e whole
+        (subst (λ (ys : List X). PassesToFault limit (map view ys) after e) (rest_is xs) p)
+        (sym (not_linkage found a (attributes_from limit ss after) (linkage_name a) refl no_name)
+        ∙ sym (ap (naming_from found) (attributes_first limit first ss w after a reads))
+        ∙ with_first found xs d w whole some before)
 
     pub naming_of_left-linkage :
         (found : EntryNaming) (name : View) (xs : List X) (d : X) (w after : Walk) (a : RawAttribute)

@@ -2,7 +2,7 @@
 //! units and in a supplement.
 #![tactic(auto)]
 
-mod attributes;
+pub mod attributes;
 mod entry;
 pub mod file;
 pub mod holder;
@@ -12,6 +12,8 @@ mod naming;
 mod passing;
 mod references;
 
+pub use attributes::is_naming;
 pub use file::DebugFile;
+pub use gimli_core_abbrev::{DW_AT_high_pc, DW_AT_ranges};
 pub use holder::{HasUnit, HoldingUnit};
 pub use names::KnownUnits;

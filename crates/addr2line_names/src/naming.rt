@@ -58,8 +58,7 @@ impl<'a, R: Reader> HoldingUnit<'a, R> {
         }
     }
 
-    // The naming by attributes. Nothing is read after a linkage name, and what can be skipped isn't
-    // read.
+    // The naming by attributes. Nothing is read after a linkage name.
     fn naming_in(
         &self,
         mut entries: EntriesRaw<'_, R>,
@@ -71,14 +70,14 @@ impl<'a, R: Reader> HoldingUnit<'a, R> {
             (map attribute_view specifications.now) entries.entry)) }
     {
         let mut found = EntryNaming::Nameless;
-        let (mut left, mut skips) = pass(&mut entries, specifications, true);
+        let mut left = pass(&mut entries, specifications)?;
         while let [specification, rest @ ..] = left {
             let attribute = entries.read_attribute(*specification)?;
             if let Some(name) = self.linkage_name(&attribute)? {
                 return Ok(EntryNaming::ByName(name));
             }
             found = self.naming_with(found, &attribute)?;
-            (left, skips) = pass(&mut entries, rest, skips);
+            left = pass(&mut entries, rest)?;
         }
         Ok(found)
     }

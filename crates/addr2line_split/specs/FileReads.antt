@@ -8,6 +8,9 @@ use Rattle.addr2line_unit.specs.Error.{Error}
 use Rattle.addr2line_unit.specs.Error.TheVariants as debug
 use Rattle.addr2line_elf.specs.declared.error.LoadError.{LoadError}
 use Rattle.addr2line_elf.specs.declared.error.LoadError.TheVariants.{Memory, Io}
+use Rattle.addr2line_elf.specs.FileParts.{PartialFile}
+use Rattle.addr2line_elf.specs.LoadedParts.{IsLoadable}
+use Rattle.addr2line_elf.specs.LoadErrors.{IsReadRefusal}
 
 -- bytes as a text, if they are UTF-8
 abbrev pub as_text : List ℕ → Option (List ℕ)
@@ -23,13 +26,14 @@ abbrev pub read_refusal : ErrorKind → LoadError
 read_refusal OutOfMemory = Memory
 read_refusal kind = Io
 
--- out of memory, or a file that can't be read
-abbrev pub IsReadRefusal : LoadError → Type 0
-IsReadRefusal e = (e ≡ Memory) ⊎ (e ≡ Io)
-
 -- what reading a file gives: bytes, of which nothing is known here, or one of these refusals
 abbrev pub IsRead : Result (List ℕ) LoadError → Type 0
 IsRead read = IfErr read IsReadRefusal
+
+-- what reading the parts of a file gives: those that a loader needs, or one of these refusals
+abbrev pub AreRead : Result PartialFile LoadError → Type 0
+AreRead (Ok file) = IsLoadable file
+AreRead (Err e) = IsReadRefusal e
 
 -- what was read, if it can be read
 abbrev pub if_readable : {A : Type 0} → Result A LoadError → Result (Option A) Error

@@ -10,9 +10,12 @@ pub use Rattle.gimli_dwarf_spec.specs.TableCache
 pub use Rattle.addr2line_elf.specs.ElfDebugSections
 pub use Rattle.addr2line_elf.specs.ElfImages
 pub use Rattle.addr2line_elf.specs.ElfSymbols
+pub use Rattle.addr2line_elf.specs.FileParts
+pub use Rattle.addr2line_elf.specs.LoadedParts
 pub use Rattle.addr2line_elf.specs.ImageLoading
 pub use Rattle.addr2line_elf.specs.LoadErrors
 pub use Rattle.addr2line_elf.specs.declared.error.LoadError
+pub use Rattle.addr2line_elf.specs.declared.file_parts.FilePart
 pub mod NamedFiles
 pub mod FileReads
 pub mod ImageFiles

@@ -1,17 +1,19 @@
-//! Files, read whole.
+//! Files, read whole, or by the parts that a loader needs.
 
-ghost use Rattle.std.specs.Prelude.{◌≡◌, ℕ, Bool, List, Result, IfErr};
+ghost use Rattle.std.specs.Prelude.{◌≡◌, ℕ, Bool, List, Result, IfErr, IfOk, length};
 ghost use Rattle.std.specs.IoError.{error_kind};
 ghost use Rattle.std.specs.Path.{path_bytes};
+ghost use Rattle.addr2line_elf.specs.LoadErrors.{IsReadRefusal};
 ghost use Rattle.addr2line_elf.specs.declared.error.LoadError.{LoadError};
-ghost use Rattle.addr2line_split.specs.FileReads.{IsRead, IsReadRefusal, ReadsRegularFile, read_refusal, if_readable};
+ghost use Rattle.addr2line_split.specs.FileReads.{AreRead, IsRead, ReadsRegularFile, read_refusal, if_readable};
 
-use addr2line_elf::LoadError;
+use addr2line_elf::{FileParts, LoadError, PartSource, read_needed};
 use addr2line_unit::Error;
 use bytes::Bytes;
+use std::alloc::Global;
 use std::fs::{self, File, OpenFile};
 use std::io;
-use std::io::{ErrorKind, Read};
+use std::io::{ErrorKind, Read, Seek, SeekFrom};
 use std::path::{AsPath, Path};
 use std::rt::Files;
 
@@ -24,6 +26,115 @@ pub fn read_file<R: Files + AllocGlobal, P: AsPath>(rt: &R, path: P) -> Result<B
         Ok(bytes) => Ok(bytes),
         Err(error) => Err(refusal_of(&error)),
     }
+}
+
+/// What a loader needs of a file, as `read_needed` reads it: each part once, into a buffer of its
+/// size; or all bytes, where those are needed, and of what is no regular file. Refused is a file that
+/// can't be read, or that ends before a part that was there when it was opened, as `Io`, and out of
+/// memory, as `Memory`.
+pub fn read_parts<R: Files + AllocGlobal, P: AsPath>(
+    rt: &R,
+    path: P,
+) -> Result<FileParts, LoadError>
+    ensures { AreRead result }
+{
+    match File::open(rt, path) {
+        Ok(file) => read_opened(rt.alloc(), file),
+        Err(error) => Err(refusal_of(&error)),
+    }
+}
+
+// The parts of an open file, or all of it.
+fn read_opened<F: Read + Seek + OpenFile + Drop>(
+    alloc: Global,
+    file: F,
+) -> Result<FileParts, LoadError>
+    ensures { AreRead result }
+{
+    let len = regular_len(&file);
+    let mut file = OpenParts { alloc, file };
+    match read_needed(alloc, &mut file, len)? {
+        Some(parts) => Ok(parts),
+        None => read_whole(alloc, &mut file.file, len),
+    }
+}
+
+// All bytes of an open file, as one part.
+fn read_whole<F: Read + Seek + OpenFile>(
+    alloc: Global,
+    file: &mut F,
+    len: u64,
+) -> Result<FileParts, LoadError>
+    ensures { AreRead result }
+{
+    match read_again(alloc, file, len) {
+        Ok(bytes) => Ok(FileParts::whole(alloc, bytes)?),
+        Err(error) => Err(refusal_of(&error)),
+    }
+}
+
+// The number of bytes of a regular file; 0 where it isn't one, or isn't known to be.
+fn regular_len<F: OpenFile>(file: &F) -> u64 {
+    match file.metadata() {
+        Ok(metadata) if metadata.is_file() => metadata.len(),
+        _ => 0,
+    }
+}
+
+// An open file as a source of its parts.
+#[derive(Drop)]
+struct OpenParts<F> {
+    alloc: Global,
+    file: F,
+}
+
+// The toolchain says nothing of what a file's bytes are, so none are known.
+impl<F: Read + Seek> PartSource for OpenParts<F> {
+    ghost is_file = { λ source file. ⊥ };
+
+    fn read_at(&mut self, offset: u64, size: u64) -> Result<Bytes, LoadError> {
+        match read_range(self.alloc, &mut self.file, offset, size) {
+            Ok(bytes) => Ok(bytes),
+            Err(error) => Err(refusal_of(&error)),
+        }
+    }
+}
+
+// The bytes of a range, in a buffer of their number.
+fn read_range<F: Read + Seek>(
+    alloc: Global,
+    file: &mut F,
+    offset: u64,
+    size: u64,
+) -> io::Result<Bytes>
+    ensures { IfOk result (λ bytes. length bytes ≡ size) }
+{
+    file.seek(SeekFrom::Start(offset))?;
+    let mut bytes = Vec::with_capacity(alloc, (size as usize).saturating_add(1))?;
+    file.by_ref().take(size).read_to_end(&mut bytes)?;
+    if bytes.len() as u64 != size {
+        return Err(io::Error::from(ErrorKind::UnexpectedEof));
+    }
+    Ok(Bytes::from_vec(bytes)?)
+}
+
+// All bytes of an open file, of which parts were read where it has a length.
+fn read_again<F: Read + Seek + OpenFile>(
+    alloc: Global,
+    file: &mut F,
+    len: u64,
+) -> io::Result<Bytes> {
+    if len > 0 {
+        file.rewind()?;
+    }
+    read_all(alloc, file)
+}
+
+// All bytes of an open file from its position on.
+fn read_all<F: Read + Seek + OpenFile>(alloc: Global, file: &mut F) -> io::Result<Bytes> {
+    let mut bytes = Vec::with_capacity(alloc, room_for(file))?;
+    file.read_to_end(&mut bytes)?;
+    Ok(Bytes::from_vec(bytes)?)
 }
 
 /// A file system: what its paths lead to, and the bytes of its files.
@@ -92,9 +203,7 @@ fn refusal_of(error: &io::Error) -> LoadError
 
 fn read_bytes<R: Files + AllocGlobal, P: AsPath>(rt: &R, path: P) -> io::Result<Bytes> {
     let mut file = File::open(rt, path)?;
-    let mut bytes = Vec::with_capacity(rt.alloc(), room_for(&file))?;
-    file.read_to_end(&mut bytes)?;
-    Ok(Bytes::from_vec(bytes)?)
+    read_all(rt.alloc(), &mut file)
 }
 
 // Room for a file, and for one byte more, so that the read that finds its end needs no other. What

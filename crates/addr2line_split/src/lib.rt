@@ -8,9 +8,11 @@ pub mod sections;
 pub mod source;
 pub mod split_file;
 
-pub use addr2line_elf::{Elf, LoadError, Symbol, Symbols};
+pub use addr2line_elf::{
+    Elf, FileParts, LoadError, MemoryFile, PartSource, Symbol, Symbols, read_needed,
+};
 use addr2line_unit::{EndianBytes, RunTimeEndian};
-pub use file_reads::{FileSystem, read_file};
+pub use file_reads::{FileSystem, read_file, read_parts};
 pub use file_source::FileSource;
 pub use map_source::{MapSource, SplitFile};
 pub use sections::dwo_sections;

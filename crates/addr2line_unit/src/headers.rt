@@ -10,9 +10,10 @@ ghost use Rattle.addr2line_root.specs.LastPrograms.{HasHeaderInFile};
 ghost use Rattle.addr2line_root.specs.LastRanges.{AreLastOf};
 ghost use Rattle.addr2line_unit.specs.ResolvedUnits.{HasRoot, value_of_unit, with_new_unit, with_unit_of_header, KeepNoFunctions, RunForRangesAlone};
 
-use crate::load::share;
 use crate::unit::ResUnit;
-use addr2line_functions::{DebuggingInformationEntry, Dwarf, Error, Reader, UnitHeader, UnitType};
+use addr2line_functions::{
+    DebuggingInformationEntry, Dwarf, Error, Reader, UnitHeader, UnitType, share,
+};
 use addr2line_root::{ArangeIndex, LastRanges, OwnedUnit};
 use std::alloc::Global;
 use std::rc::Rc;

@@ -29,7 +29,7 @@ pub use addr2line_root::{
 };
 pub use first_answer::answer_of;
 pub use kept::Kept;
-pub use load::{KeptLoad, SplitDwarfLoad, load_of, share};
+pub use load::{KeptLoad, SplitDwarfLoad, load_of};
 pub use order::ordered_ranges;
 pub use supplement::units_of_supplement;
 pub use unit::ResUnit;

@@ -4,7 +4,7 @@ ghost use Rattle.std.specs.Prelude.{Ok, option_map};
 ghost use Rattle.addr2line_functions.specs.Calls.{ReturnsAs, ReturnsAsOrNoMemory, ReturnsOrNoMemory};
 ghost use Rattle.addr2line_functions.specs.FirstAnswers.{split_path, load_of_id, load_of};
 
-use addr2line_functions::{Dwarf, DwoId, Error, Reader, UnitRef};
+use addr2line_functions::{Dwarf, DwoId, Error, Reader, UnitRef, share};
 use addr2line_root::{OwnedUnit, copy_of};
 use std::alloc::Global;
 use std::marker::Model;
@@ -48,13 +48,6 @@ fn split_path<R: Reader>(alloc: Global, unit: &UnitRef<'_, R>) -> Result<Option<
         Some(name) => Ok(Some(unit.attr_string(name)?)),
         None => Ok(None),
     }
-}
-
-/// The same sections, shared once more.
-pub fn share<R: Reader>(sections: &Rc<Dwarf<R>>) -> Result<Rc<Dwarf<R>>, Error>
-    ensures { ReturnsAsOrNoMemory (λ s. s.value) result (Ok sections.now.value) }
-{
-    Ok(sections.clone()?)
 }
 
 // The load of a unit with this identifier.

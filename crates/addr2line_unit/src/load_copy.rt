@@ -3,8 +3,8 @@
 ghost use Rattle.std.specs.Prelude.{Ok};
 ghost use Rattle.addr2line_functions.specs.Calls.{ReturnsOrNoMemory};
 
-use crate::load::{SplitDwarfLoad, share};
-use addr2line_functions::{Error, Reader};
+use crate::load::SplitDwarfLoad;
+use addr2line_functions::{Error, Reader, share};
 use addr2line_root::copy_of;
 
 impl<R: Reader> SplitDwarfLoad<R> {

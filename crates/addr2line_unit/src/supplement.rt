@@ -1,15 +1,13 @@
 //! The units of a file's supplement (DWARF 5, 7.3.6), read one after the other.
 
-ghost use Rattle.std.specs.Prelude.{◌≡◌, ◌++◌, Ok, OnOk, IfErr};
-ghost use Rattle.std.specs.Option.{option_to_list};
+ghost use Rattle.std.specs.Prelude.{Ok};
 ghost use Rattle.addr2line_functions.specs.Calls.{ReturnsAsOrNoMemory, ReturnsOrNoMemory};
-ghost use Rattle.addr2line_functions.specs.Error.TheVariants.{Memory};
 ghost use Rattle.addr2line_functions.specs.DwarfFiles.{supplement};
 ghost use Rattle.addr2line_functions.specs.UnitFacts.{unit_facts};
 ghost use Rattle.addr2line_functions.specs.Contexts.{readable_facts, units_of_supplement};
 ghost use Rattle.addr2line_unit.specs.ContextUnits.{readable_units};
 
-use addr2line_functions::{Dwarf, Error, Reader, Unit, UnitHeader};
+use addr2line_functions::{Dwarf, Error, Reader, Unit, UnitHeader, push_if_any};
 use std::alloc::Global;
 
 // The unit of a header, if it isn't refused. The only refusal is out of memory.
@@ -28,17 +26,6 @@ fn readable_unit<R: Reader>(
     }
 }
 
-// Appends a unit, if there is one.
-fn push_unit<R: Reader>(units: &mut Vec<Unit<R>>, unit: Option<Unit<R>>) -> Result<(), Error>
-    ensures ok { OnOk result (units.new.items ≡ units.old.items ++ option_to_list unit) }
-    ensures refusal { IfErr result (λ e. e ≡ Memory) }
-{
-    if let Some(unit) = unit {
-        units.push(unit)?;
-    }
-    Ok(())
-}
-
 // The units of a file that can be read. Refused by a header that can't be read.
 fn readable_units<R: Reader>(alloc: Global, dwarf: &Dwarf<R>) -> Result<Vec<Unit<R>>, Error>
     ensures { ReturnsAsOrNoMemory (λ units. units.items) result
@@ -48,7 +35,7 @@ fn readable_units<R: Reader>(alloc: Global, dwarf: &Dwarf<R>) -> Result<Vec<Unit
     let mut headers = dwarf.units()?;
     while let Some(header) = headers.next()? {
         let unit = readable_unit(alloc, dwarf, header)?;
-        push_unit(&mut units, unit)?;
+        push_if_any(&mut units, unit)?;
     }
     Ok(units)
 }

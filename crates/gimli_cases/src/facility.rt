@@ -151,6 +151,7 @@ const OPERATIONS: [(Facility, &[&str]); 25] = [
             "line_files",
             "line_formats",
             "line_rows",
+            "line_rows_at_once",
             "line_instructions",
             "line_sequences",
         ],

@@ -7,7 +7,7 @@ use gimli_core::{DebugLineOffset, Error, Reader};
 use gimli_lines::{
     BorrowedLineProgram, ColumnType, CompleteLineProgram, DebugLine, FileEntry,
     IncompleteLineProgram, LineInstruction, LineProgram, LineProgramHeader, LineRow, LineRows,
-    LineSequence, ProgramInstructions,
+    LineSequence, ProgramInstructions, RowSink,
 };
 use std::alloc::Global;
 
@@ -28,6 +28,7 @@ pub fn answer<R: Reader>(
             "line_files" => files(&header, out),
             "line_formats" => formats(&header, out),
             "line_rows" => rows(BorrowedLineProgram::new(&header).rows(), out),
+            "line_rows_at_once" => rows_at_once(BorrowedLineProgram::new(&header).rows(), out),
             "line_program" => rows(IncompleteLineProgram::new(header).rows(), out),
             "line_instructions" => instructions(&header, out),
             _ => sequences(alloc, header, out),
@@ -162,6 +163,46 @@ fn rows<R: Reader, P: LineProgram<R> + Drop>(
             files(rows.header(), out);
         }
         Err(error) => out.refuse(error),
+    }
+}
+
+// The same rows, all given to a sink, and the files after them.
+fn rows_at_once<R: Reader, P: LineProgram<R> + Drop>(
+    rows: Result<LineRows<R, P>, Error>,
+    out: &mut Answer,
+) {
+    match rows {
+        Ok(mut rows) => {
+            let mut written = WrittenRows { out };
+            let outcome = rows.run_all(&mut written);
+            if let Err(error) = outcome {
+                written.out.refuse(error);
+            }
+            written.out.text(" ");
+            files(rows.header(), written.out);
+        }
+        Err(error) => out.refuse(error),
+    }
+}
+
+// Writes each row that it is given to an answer.
+#[derive(Drop)]
+struct WrittenRows<'a> {
+    out: &'a mut Answer,
+}
+
+impl<'a> RowSink for WrittenRows<'a> {
+    ghost use Rattle.gimli_lines.specs.Registers.{Registers};
+
+    ghost Kept = { Registers };
+
+    ghost form = { λ found. found };
+
+    ghost HasTaken = { λ written rows. Unit {0} };
+
+    fn take(&mut self, found: &LineRow) -> Result<(), Error> {
+        row(found, self.out);
+        Ok(())
     }
 }
 

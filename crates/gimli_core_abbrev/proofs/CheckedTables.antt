@@ -83,8 +83,8 @@ in_order-more first ds d h is place x e = elim (cases_lt place (length ds)) [
         let there : None ≡ Some x =
         sym (item-after ds (d ∷ []) (suc i)) ∙ ap (slice_get (ds ++ d ∷ [])) (sym p) ∙ e in absurd cc
 
-abbrev pub run-more : (first : ℕ) (v w u : View) (run : IsRun first v w) (d : Declaration) → declaration w ≡ Ok (Some d, u)
-    → d.code ≡ first + length run.declarations + 1 → IsRun first v u
+abbrev pub run-more : (first : ℕ) (v w u : View) (run : IsRun first v w) (d : Declaration)
+    → declaration w ≡ Ok (Some d, u) → d.code ≡ first + length run.declarations + 1 → IsRun first v u
 run-more first v w u run d item is = record {
   declarations = run.declarations ++ d ∷ [];
   listing = listing_further run.declarations d v w u run.listing item;

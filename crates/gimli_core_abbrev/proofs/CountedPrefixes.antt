@@ -65,7 +65,8 @@ counted_more p k c r xs x count all rest room passes =
 -- none is where there is no room
 pub counted_full : {A : Type 0} (p : A → Bool) (k c r : ℕ) (xs : List A) (x : A) → c ≡ min k (prefix_len p xs)
     → (c ≡ length xs → c + r ≡ k) → r ≡ 0 → c ≡ min k (prefix_len p (xs ++ x ∷ []))
-counted_full {A} p k c r xs x count rest full = by_order (cases_lt c (length xs)) (cases_lt (prefix_len p xs) (length xs))
+counted_full {A} p k c r xs x count rest full =
+    by_order (cases_lt c (length xs)) (cases_lt (prefix_len p xs) (length xs))
   where
     by_order : ((c < length xs) ⊎ (length xs ≤ c)) → ((prefix_len p xs < length xs) ⊎ (length xs ≤ prefix_len p xs))
         → c ≡ min k (prefix_len p (xs ++ x ∷ []))

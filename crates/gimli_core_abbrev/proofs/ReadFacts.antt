@@ -13,15 +13,12 @@ use Rattle.gimli_core_abbrev.specs.Declarations.{Attribute}
 use Rattle.gimli_core_abbrev.specs.declared.facts.AttributeFacts.{AttributeFacts}
 use Rattle.gimli_core_abbrev.specs.declared.widths.FixedWidths.{FixedWidths}
 use Rattle.gimli_core_abbrev.specs.DeclarationFacts.{is_of_ranges, names_ranges, width_so_far, KnowsRead}
-use Rattle.gimli_core_abbrev.specs.FormWidths.{count_of_fixed, fixed_width_of, most_counted, sum_of_first, total_width, width_of}
+use Rattle.gimli_core_abbrev.specs.FormWidths.{attribute_width, count_of_fixed, fixed_width_of, most_counted, sum_of_first, total_width, width_of}
 use Rattle.gimli_core_abbrev.proofs.CountedPrefixes.{counted_failed, counted_full, counted_more, counted_within}
 use Rattle.gimli_core_abbrev.proofs.WidthSums.{products_add, sum_of_first-more, sum_of_first-further}
 
 abbrev some : ℕ → Option ℕ
 some n = Some n
-
-abbrev width_in : Encoding → Attribute → Option ℕ
-width_in e a = width_of e a.form
 
 abbrev is_some_width : Option ℕ → Bool
 is_some_width o = is_some o
@@ -71,9 +68,9 @@ counted_further xs a f g w known ranges room next_room width bytes addresses off
       let at : drop f.counted (xs ++ a ∷ []) ≡ a ∷ [] =
       ap (λ (n : ℕ). drop n (xs ++ a ∷ [])) all ∙ drop-append_seam xs (a ∷ []) in
       let next : g.counted ≡ suc f.counted = omega (arith, counted) in
-      ap (λ (n : ℕ). sum_of_first (width_in e) n (xs ++ a ∷ [])) next
-      ∙ sum_of_first-more (width_in e) f.counted (xs ++ a ∷ []) [] a (width_so_far e f) (total_width e w) at
-      (sum_of_first-further (width_in e) f.counted xs (a ∷ []) (width_so_far e f) (known.sum e))
+      ap (λ (n : ℕ). sum_of_first (attribute_width e) n (xs ++ a ∷ [])) next
+      ∙ sum_of_first-more (attribute_width e) f.counted (xs ++ a ∷ []) [] a (width_so_far e f) (total_width e w) at
+      (sum_of_first-further (attribute_width e) f.counted xs (a ∷ []) (width_so_far e f) (known.sum e))
       (fixed_is e a.form (total_width e w) (width e))
       ∙ ap some (sym (products_add f.bytes w.bytes g.bytes f.addresses w.addresses g.addresses f.offsets w.offsets
       g.offsets e.address_size (word_size e.format) bytes addresses offsets));
@@ -101,8 +98,8 @@ passed_further xs a f g known ranges count bytes addresses offsets counted none 
   count = λ e. counted ∙ count e;
   sum = λ e.
       let same : width_so_far e f ≡ width_so_far e g = rw (bytes, addresses, offsets) refl in
-      ap (λ (n : ℕ). sum_of_first (width_in e) n (xs ++ a ∷ [])) counted
-      ∙ sum_of_first-further (width_in e) f.counted xs (a ∷ []) (width_so_far e f) (known.sum e)
+      ap (λ (n : ℕ). sum_of_first (attribute_width e) n (xs ++ a ∷ [])) counted
+      ∙ sum_of_first-further (attribute_width e) f.counted xs (a ∷ []) (width_so_far e f) (known.sum e)
       ∙ ap some same;
   room = λ all.
       let within = counted_within (has_fixed any) most_counted f.counted xs (known.count any) in

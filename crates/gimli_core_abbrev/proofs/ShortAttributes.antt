@@ -71,8 +71,9 @@ short_some (x ∷ []) a b name form le at_0 at_1 low_name low_form named formed 
 short_some (x ∷ y ∷ rest) a b name form le at_0 at_1 low_name low_form named formed no_value = (
   le,
   λ v e.
-      pair_read v name form rest (e ∙ ap (λ (k : ℕ). k ∷ y ∷ rest) (sym at_0) ∙ ap (λ (k : ℕ). name ∷ k ∷ rest) (sym at_1))
-      low_name low_form
+      pair_read v name form rest
+      (e ∙ ap (λ (k : ℕ). k ∷ y ∷ rest) (sym at_0) ∙ ap (λ (k : ℕ). name ∷ k ∷ rest) (sym at_1)) low_name low_form
       ∙ rw (ne_eqb name 0 named) refl
-      ∙ plain name form (after 2 v) (ne_eqb name 0 named) (ne_eqb form 0 formed) (ne_eqb form implicit_const_form no_value),
+      ∙ plain name form (after 2 v) (ne_eqb name 0 named) (ne_eqb form 0 formed)
+      (ne_eqb form implicit_const_form no_value),
 )

@@ -50,11 +50,22 @@ mapped_within f (x ∷ xs) (suc i) y e = let rest = mapped_within f xs i y e in 
 abbrev code_in : Option Declaration → Option ℕ
 code_in o = option_map (λ (d : Declaration). d.code) o
 
-pub stored_within : (in_order : ℕ) (others : List ℕ) (list : List AttributeSpecification) (ds : List StoredDeclaration)
-    (i code : ℕ) → code_in (slice_get (stored in_order others list ds) i) ≡ Some code → i < length ds
-stored_within in_order others list ds i code e =
-    let within = mapped_within (λ (d : Declaration). d.code) (stored in_order others list ds) i code e in
-    let count = length-stored (code_at in_order others) list 0 0 ds in omega (arith, within, count)
+-- a place whose code is known is that of a declaration
+pub stored_within : {ds : List StoredDeclaration} {n : ℕ} {others : List ℕ} {list : List AttributeSpecification}
+    {all : List Declaration} (i code : ℕ) → IsStored ds n others list → stored n others list ds ≡ all
+    → code_in (slice_get all i) ≡ Some code → i < length ds
+stored_within {ds} {n} {others} {list} i code is view known =
+    let coded = ap (λ (xs : List Declaration). code_in (slice_get xs i)) view ∙ known in
+    let within = mapped_within (λ (d : Declaration). d.code) (stored n others list ds) i code coded in
+    let count = length-stored (code_at n others) list 0 0 ds in omega (arith, within, count)
+
+-- the declaration at such a place
+pub stored_there : {ds : List StoredDeclaration} {n : ℕ} {others : List ℕ} {list : List AttributeSpecification}
+    {all : List Declaration} (i code : ℕ) (d : StoredDeclaration) → IsStored ds n others list
+    → stored n others list ds ≡ all → code_in (slice_get all i) ≡ Some code → d ≡ get_or ds i d
+    → slice_get ds i ≡ Some d
+stored_there {ds} i code d is view known read =
+    slice_get_read ds (length ds) i d refl (stored_within i code is view known) read
 
 -- the declaration at a place, of its parts
 pub stored_is : (in_order : ℕ) (others : List ℕ) (list : List AttributeSpecification) (ds : List StoredDeclaration)
@@ -231,7 +242,8 @@ codes_before : (n m : ℕ) (others : List ℕ) → m ≡ suc n → (i : ℕ) →
 codes_before n m others e i lt =
     rw (lt-ltb i m (omega (arith, e, lt)), lt-ltb i n lt) refl
 
-code_of_other : (n : ℕ) (others : List ℕ) (code i : ℕ) → i ≡ n + length others → code_at n (others ++ code ∷ []) i ≡ code
+code_of_other : (n : ℕ) (others : List ℕ) (code i : ℕ) → i ≡ n + length others
+    → code_at n (others ++ code ∷ []) i ≡ code
 code_of_other n others code i e =
     let offset : i - n ≡ length others = omega (arith, e) in
     rw (le-ltb i n (omega (arith, e)))
@@ -246,21 +258,17 @@ codes_before_other n others code i lt = elim (cases_lt i n) [
 
 -- ---- what a place gives
 
-pub read_at : (ds : List StoredDeclaration) (i : ℕ) (d : StoredDeclaration) → i < length ds → d ≡ get_or ds i d
-    → slice_get ds i ≡ Some d
-read_at ds i d lt e = slice_get_read ds (length ds) i d refl lt e
-
-pub within_list : (ds : List StoredDeclaration) (n : ℕ) (others : List ℕ) (list : List AttributeSpecification)
+pub within_list : {ds : List StoredDeclaration} {n : ℕ} {others : List ℕ} {list : List AttributeSpecification}
     (i b : ℕ) (d : StoredDeclaration) → IsStored ds n others list → slice_get ds i ≡ Some d → b ≡ begin_of 0 ds i
     → (b ≤ d.end) × (d.end ≤ length list)
-within_list ds n others list i b d is there begin =
+within_list {ds} {n} {others} {list} i b d is there begin =
     let within = tiles-within (length list) 0 ds i d is.tiled there in
     (subst (λ (k : ℕ). k ≤ d.end) (sym begin) within.0, within.1)
 
-pub known_at : (ds : List StoredDeclaration) (n : ℕ) (others : List ℕ) (list : List AttributeSpecification)
+pub known_at : {ds : List StoredDeclaration} {n : ℕ} {others : List ℕ} {list : List AttributeSpecification}
     (i b : ℕ) (d : StoredDeclaration) → IsStored ds n others list → slice_get ds i ≡ Some d → b ≡ begin_of 0 ds i
     → KnowsAttributes d.head (attributes_between list b d.end)
-known_at ds n others list i b d is there begin =
+known_at {ds} {n} {others} {list} i b d is there begin =
     subst (λ (k : ℕ). KnowsAttributes d.head (attributes_between list k d.end)) (sym begin) (is.heads i d there)
 
 -- ---- a push
@@ -379,7 +387,8 @@ pub stays_elsewhere : (ds more_ds : List StoredDeclaration) (d : StoredDeclarati
 stays_elsewhere ds more_ds d n others more_others list more all a key place places new is ds_is all_is end adds
     others_is counts absent key_is place_is placed = (
       is_stored_after ds more_ds d n n others more_others list more all a is.0 ds_is all_is end adds
-          (let longer = ap length others_is in let count = length-append others (a.code ∷ []) in omega (arith, longer, count)),
+          (let longer = ap length others_is in
+          let count = length-append others (a.code ∷ []) in omega (arith, longer, count)),
       subst (λ (xs : List Declaration). IsLayout xs n new)
           (sym (view_other ds more_ds d n others more_others list more all a is.0 ds_is all_is end adds others_is))
           (other_place (stored n others list ds) n places new a is.1 counts absent (λ code. placed code

@@ -7,7 +7,7 @@ use Rattle.gimli_core_readers.specs.FormatSizes.{word_size}
 use Rattle.gimli_core_abbrev.specs.declared.declaration.Head.{Head}
 use Rattle.gimli_core_abbrev.specs.declared.facts.AttributeFacts.{AttributeFacts}
 use Rattle.gimli_core_abbrev.specs.Declarations.{Attribute}
-use Rattle.gimli_core_abbrev.specs.FormWidths.{AreWidthsOf, count_of_fixed, most_counted, sum_of_first, width_of}
+use Rattle.gimli_core_abbrev.specs.FormWidths.{AreWidthsOf, attribute_width, count_of_fixed, most_counted, sum_of_first}
 
 -- the names of the attributes that give an entry's addresses (DWARF 5, 2.17)
 abbrev pub is_of_ranges : ℕ → Bool
@@ -34,7 +34,7 @@ pub record KnowsRead (f : AttributeFacts) (attributes : List Attribute) : Type 0
   pub ranges : f.has_ranges ≡ names_ranges attributes
   pub count : (encoding : Encoding) → f.counted ≡ count_of_fixed encoding attributes
   pub sum : (encoding : Encoding)
-      → sum_of_first (λ a. width_of encoding a.form) f.counted attributes
+      → sum_of_first (attribute_width encoding) f.counted attributes
       ≡ Some (width_so_far encoding f)
   -- while all are counted, there is room for the rest of the most, and none after one that isn't
   pub room : f.counted ≡ length attributes → f.counted + f.room ≡ most_counted

@@ -60,7 +60,11 @@ width_of encoding form =
     else if is_one_of forms_of_16 form then Some 16
     else None
 
--- the same, none where they depend on the version of the standard
+-- the bytes of an attribute's value
+abbrev pub attribute_width : Encoding → Attribute → Option ℕ
+attribute_width encoding attribute = width_of encoding attribute.form
+
+-- the bytes of a form's value, none also where they depend on the version of the standard
 abbrev pub fixed_width_of : Encoding → ℕ → Option ℕ
 fixed_width_of encoding form =
     if form == DW_FORM_ref_addr.0 then None else width_of encoding form
@@ -100,7 +104,7 @@ count_of_fixed encoding attributes =
 pub record AreWidthsIn (encoding : Encoding) (attributes : List Attribute) (w : FixedWidths)
     : Type 0 where
   pub count : count_of_widths w ≡ count_of_fixed encoding attributes
-  pub sum : sum_of_first (λ a. width_of encoding a.form) (count_of_widths w) attributes
+  pub sum : sum_of_first (attribute_width encoding) (count_of_widths w) attributes
       ≡ Some (total_width encoding w)
 
 -- whatever the encoding

@@ -20,7 +20,8 @@ abbrev pub can_read : Result (List Declaration) Error → Result (Unit {0}) Erro
 can_read table = and_then table (λ ds. Ok tt)
 
 -- the declaration of a code, if the table can be read and has one
-abbrev pub find_declaration : ℕ → Result (List Declaration) Error → Result (Option Declaration) Error
+abbrev pub find_declaration : ℕ → Result (List Declaration) Error
+    → Result (Option Declaration) Error
 find_declaration code table = and_then table (λ ds. Ok (declaration_at code ds))
 
 -- there is none, or the table can't be read
@@ -55,8 +56,8 @@ SkipsInOrder first limit (Ok Unordered) v w =
     × (declaration u ≡ Ok (Some d, w)) × (d.code ≢ first + length run.declarations + 1)
 SkipsInOrder first limit (Err e) v w = (u : View) × IsRun first v u × (declaration u ≡ Err e)
 
--- What a table that begins at v says of a code. Where it has the code, its declaration begins at w. A
--- refusal is that of the table.
+-- What a table that begins at v says of a code. Where it has the code, its declaration begins at
+-- w. A refusal is that of the table.
 abbrev pub SeeksInOrder : ℕ → Result CodePlace Error → View → View → Type 0
 SeeksInOrder code (Ok Here) v w =
     (d : Declaration) × (u : View) × (declaration w ≡ Ok (Some d, u))

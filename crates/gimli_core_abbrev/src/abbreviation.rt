@@ -36,7 +36,7 @@ pub struct AttributeSpecification {
     constant: [u8; 8],
 }
 
-/// By what it says: a constant counts where the form is `DW_FORM_implicit_const`.
+/// Compares names and forms, and values where the form is `DW_FORM_implicit_const`.
 impl PartialEq for AttributeSpecification {
     ghost use Rattle.gimli_core_abbrev.specs.DeclarationEquality.{is_same_specification, same_specification_laws};
     ghost use Rattle.std.specs.Cmp.{partial_equiv_from_equiv};
@@ -58,25 +58,8 @@ impl Eq for AttributeSpecification {
     ghost laws = { same_specification_laws };
 }
 
-/// The pair of zeros that ends the attributes of a declaration.
-impl Default for AttributeSpecification {
-    ghost use Rattle.std.specs.Prelude.{◌≡◌, None};
-    ghost use Rattle.gimli_core_abbrev.specs.AbbreviationViews.{attribute_view};
-
-    ghost is_default = { λ a. attribute_view a ≡ record
-        { name = 0; form = 0; implicit_const = None } };
-
-    fn default() -> Self {
-        AttributeSpecification {
-            name: DwAt(0),
-            form: DwForm(0),
-            constant: [0; 8],
-        }
-    }
-}
-
 impl AttributeSpecification {
-    /// The value belongs to the form `DW_FORM_implicit_const` alone.
+    /// An attribute, which has a value exactly if its form is `DW_FORM_implicit_const`.
     pub fn new(name: DwAt, form: DwForm, implicit_const_value: Option<i64>) -> Self
         requires { is_some implicit_const_value ≡ (form.0 == implicit_const_form) }
         ensures { attribute_view result
@@ -116,7 +99,7 @@ impl AttributeSpecification {
 }
 
 impl AttributeSpecification {
-    /// The bytes of the attribute's value, where the form alone says how many there are (DWARF 5,
+    /// The size of the attribute's value in bytes, where the form alone determines it (DWARF 5,
     /// 7.5.6).
     pub fn size(&self, encoding: Encoding) -> Option<usize>
         ensures { result ≡ width_of encoding (attribute_view self.now).form }
@@ -147,7 +130,7 @@ impl AttributeSpecification {
 
 // ---- reading
 
-// The value that a declaration itself holds, after an attribute's form.
+// Reads the value that a declaration itself holds, after an attribute's form.
 #[tactic(auto, unfolding(crate::specs::TableParsing::implicit_const))]
 fn parse_implicit_const<R: Reader>(input: &mut R, form: DwForm) -> Result<Option<i64>, Error>
     ensures { Reads result (R.view input.old) (R.view input.new)
@@ -160,7 +143,7 @@ fn parse_implicit_const<R: Reader>(input: &mut R, form: DwForm) -> Result<Option
     }
 }
 
-// An attribute, or none at the pair of zeros that ends them, whatever the bytes of its numbers.
+// Reads an attribute, or none at the pair of zeros that ends them. Its numbers may have any size.
 #[inline(never)]
 #[tactic(auto, unfolding(crate::specs::TableParsing::attribute, crate::specs::TableParsing::attribute_of))]
 fn parse_long_attribute<R: Reader>(input: &mut R) -> Result<Option<AttributeSpecification>, Error>
@@ -179,8 +162,8 @@ fn parse_long_attribute<R: Reader>(input: &mut R) -> Result<Option<AttributeSpec
     Ok(Some(AttributeSpecification::new(name, form, implicit_const_value)))
 }
 
-// An attribute whose name and form are a byte each, or none at a pair of zeros. Others, and those
-// that are refused or hold a value, aren't looked at.
+// The attribute in the first two bytes, or none at a pair of zeros. Nothing where it takes more
+// bytes, and where reading it is refused.
 #[inline(always)]
 fn short_attribute(bytes: &[u8]) -> Option<Option<AttributeSpecification>>
     ensures { IfSome result (λ a. IsShortAttribute bytes.now (option_map attribute_view a)) }
@@ -201,7 +184,7 @@ fn short_attribute(bytes: &[u8]) -> Option<Option<AttributeSpecification>>
     Some(Some(AttributeSpecification::new(DwAt(name), DwForm(form), None)))
 }
 
-// An attribute, or none at the pair of zeros that ends them.
+// Reads an attribute, or none at the pair of zeros that ends them.
 #[inline(always)]
 fn parse_attribute<R: Reader>(input: &mut R) -> Result<Option<AttributeSpecification>, Error>
     ensures { ReturnsAs (λ a. (option_map attribute_view a, R.view input.new)) result
@@ -214,14 +197,15 @@ fn parse_attribute<R: Reader>(input: &mut R) -> Result<Option<AttributeSpecifica
     parse_long_attribute(input)
 }
 
-// An attribute that was put after those of a list, and what is known with it of those after a place.
+// An attribute that was appended to a list, and the facts about its declaration's attributes so
+// far.
 #[derive(Clone, Copy, Debug)]
 struct Pushed {
     attribute: AttributeSpecification,
     facts: AttributeFacts,
 }
 
-// Puts an attribute after those of a list, if there is one.
+// Appends an attribute to a list, if there is one.
 #[inline(always)]
 fn push(
     attribute: Option<AttributeSpecification>,
@@ -246,8 +230,7 @@ fn push(
     Ok(Some(Pushed { attribute, facts }))
 }
 
-// Reads an attribute from borrowed bytes, which stay in registers, and puts it after those of a
-// list.
+// Reads an attribute from borrowed bytes, which stay in registers, and appends it to a list.
 #[inline(always)]
 fn push_next<E: Endianity>(
     place: &mut EndianSlice<'_, E>,
@@ -274,7 +257,7 @@ fn push_next<E: Endianity>(
     Ok(push(attribute, found, facts)?)
 }
 
-// Reads the attributes of a declaration, and puts them after those of a list.
+// Reads the attributes of a declaration, and appends them to a list.
 #[inline(always)]
 #[tactic(auto, unfolding(crate::specs::TableParsing::attributes))]
 fn parse_attributes<E: Endianity>(
@@ -307,7 +290,7 @@ fn skip_attributes<R: Reader>(input: &mut R) -> Result<(), Error>
     Ok(())
 }
 
-// Whether children follow.
+// Reads whether children follow.
 #[tactic(auto, unfolding(crate::specs::TableParsing::children))]
 fn parse_children<R: Reader>(input: &mut R) -> Result<bool, Error>
     ensures { ReturnsAs (λ b. (b, R.view input.new)) result (children (R.view input.old)) }
@@ -319,7 +302,7 @@ fn parse_children<R: Reader>(input: &mut R) -> Result<bool, Error>
     }
 }
 
-// What follows a code. The attributes are put after those of a list.
+// Reads what follows a code. The attributes are appended to a list.
 #[inline(always)]
 #[tactic(auto, unfolding(crate::specs::TableParsing::declaration_of))]
 fn parse_after_code<E: Endianity>(
@@ -344,8 +327,8 @@ fn parse_after_code<E: Endianity>(
     Ok(CodedHead { code, head })
 }
 
-// A declaration, or none where the table ends: at the code 0 and at the end of the bytes. Its
-// attributes are put after those of a list.
+// Reads a declaration, or none where the table ends: at the code 0 and at the end of the bytes. Its
+// attributes are appended to a list.
 #[inline(always)]
 #[tactic(auto, unfolding(crate::specs::TableParsing::declaration, crate::specs::TableParsing::coded_declaration))]
 pub(crate) fn parse<E: Endianity>(
@@ -380,8 +363,7 @@ pub(crate) fn skip_after_code<R: Reader>(input: &mut R, code: u64) -> Result<u64
     ensures { ReturnsAs (λ c. (c, R.view input.new)) result
         (map_value (λ d. d.code) (declaration_of code) (R.view input.old)) }
 {
-    let tag = DwTag(input.read_uleb128_u16()?);
-    if tag.0 == 0 {
+    if input.read_uleb128_u16()? == 0 {
         return Err(Error::AbbreviationTagZero);
     }
     let _has_children = parse_children(input)?;

@@ -127,7 +127,8 @@ impl AbbreviationsCache {
             (unwrap_or (finite_map.get self.now (R.Offset.count offset.0))
             (table_at (R.Offset.count offset.0) section.now)) }
         // A fault that is cached is answered without reading the section again.
-        ensures free { (e : Error) → finite_map.get self.now (R.Offset.count offset.0) ≡ Some (Err e)
+        ensures free { (e : Error)
+            → finite_map.get self.now (R.Offset.count offset.0) ≡ Some (Err e)
             → result ≡ Err e }
     {
         match self.cached_table(offset.0.into_u64()) {

@@ -1,4 +1,4 @@
-//! Tables that are checked and not kept, but for one declaration.
+//! Checks of tables that aren't kept, except for one declaration.
 
 ghost use Rattle.std.specs.Prelude.{◌≤◌, ◌<◌};
 ghost use Rattle.gimli_core_readers.specs.Calls.{Returns, ReturnsOrNoMemory};
@@ -17,7 +17,7 @@ use std::alloc::Global;
 pub(crate) enum Skipped {
     // The end of the table.
     Ended,
-    // Their count.
+    // The last of the codes.
     Counted,
     // A declaration with another code, which was skipped as well.
     Unordered,
@@ -27,7 +27,7 @@ pub(crate) enum Skipped {
 pub(crate) enum CodePlace {
     // It begins here.
     Here,
-    // The table has none.
+    // The table has no such code.
     Nowhere,
     // The codes of the table aren't in order.
     NotInOrder,
@@ -51,7 +51,7 @@ fn skip_in_order<R: Reader>(input: &mut R, first: u64, limit: u64) -> Result<Ski
     Ok(Skipped::Counted)
 }
 
-// Whether a table can be read. Where the codes are 1, 2, .., that takes no memory.
+// Checks that a table can be read. Takes no memory where the codes are 1, 2, ..
 pub(crate) fn check<R: Reader>(alloc: Global, reader: &R) -> Result<(), Error>
     ensures value { ReturnsOrNoMemory result (can_read (value_of (table (R.view reader.now)))) }
     ensures free { IsInOrder (listing_in bytes_left declaration (R.view reader.now)).items
@@ -70,7 +70,7 @@ pub(crate) fn check<R: Reader>(alloc: Global, reader: &R) -> Result<(), Error>
 }
 
 // The declaration of a code in a table, refused where the table is. Where the codes are 1, 2, ..,
-// that takes memory for its attributes alone.
+// only the declaration's attributes take memory.
 pub(crate) fn find<R: Reader>(
     alloc: Global,
     reader: &R,

@@ -13,7 +13,7 @@ use crate::widths::FixedWidths;
 use gimli_core_readers::DwTag;
 use std::marker::Model;
 
-// What is said before the attributes of a declaration, and what is known of them.
+// What a declaration says before its attributes, and what is known of these.
 #[derive(Clone, Copy, Debug, PartialEq, Eq)]
 pub(crate) struct Head {
     tag: DwTag,
@@ -23,7 +23,7 @@ pub(crate) struct Head {
 }
 
 impl Head {
-    // With what is known of its attributes.
+    // The head of a declaration, with the facts about its attributes.
     #[inline(always)]
     pub(crate) fn new(tag: DwTag, has_children: bool, facts: AttributeFacts) -> Self
         requires { FitsInBytes facts }
@@ -40,15 +40,14 @@ impl Head {
     }
 }
 
-// A declaration but for its attributes.
+// A declaration without its attributes.
 #[derive(Clone, Copy, Debug)]
 pub(crate) struct CodedHead {
     pub(crate) code: u64,
     pub(crate) head: Head,
 }
 
-/// What entries of one code have in common: the view of a declaration, whose attributes are those
-/// of its table.
+/// What entries of one code have in common: a declaration, borrowed from its table.
 #[derive(Debug, Drop)]
 pub struct Abbreviation<'table> {
     code: u64,
@@ -72,7 +71,7 @@ impl<'table> Model for Abbreviation<'table> {
     ghost invariant = { λ a. KnowsAttributes a.head (map attribute_view a.attributes.now) };
 }
 
-/// In all that a declaration says.
+/// Compares all that declarations say.
 impl<'table> PartialEq for Abbreviation<'table> {
     ghost use Rattle.gimli_core_abbrev.specs.DeclarationEquality.{is_same_declaration, same_declaration_laws};
     ghost use Rattle.std.specs.Cmp.{partial_equiv_from_equiv};
@@ -96,7 +95,7 @@ impl<'table> Eq for Abbreviation<'table> {
 }
 
 impl<'table> Abbreviation<'table> {
-    // A declaration of its parts.
+    // The declaration that has these parts.
     #[inline(always)]
     pub(crate) fn of_parts(
         code: u64,
@@ -155,7 +154,7 @@ impl<'table> Abbreviation<'table> {
         self.attributes
     }
 
-    /// The widths of the values of the first attributes, where their forms alone say them.
+    /// The widths of the values of the first attributes, where their forms alone determine them.
     #[inline(always)]
     pub fn fixed_widths(&self) -> FixedWidths
         ensures { AreWidthsOf self.now.attributes result }
@@ -163,7 +162,7 @@ impl<'table> Abbreviation<'table> {
         self.head.widths
     }
 
-    // What is said before the attributes, and what is known of them.
+    // What the declaration says before its attributes, and what is known of these.
     #[inline(always)]
     pub(crate) fn head(&self) -> Head
         ensures parts { self.now ≡ declaration_of_parts

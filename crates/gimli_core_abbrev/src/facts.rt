@@ -1,4 +1,4 @@
-//! What is known of the attributes of a declaration while they are read.
+//! Facts about the attributes of a declaration, gathered while they are read.
 
 ghost use Rattle.std.specs.Prelude.{◌≡◌, ◌||◌, List, [], ◌∷◌, ◌++◌};
 ghost use Rattle.gimli_core_abbrev.specs.AttributeViews.{attribute_view};
@@ -10,24 +10,25 @@ use crate::abbreviation::AttributeSpecification;
 use crate::widths::FixedWidths;
 use gimli_core_readers::{DW_AT_high_pc, DW_AT_low_pc, DW_AT_ranges, DwAt};
 
-// The most attributes whose widths are counted. Their sums fit in a byte each.
+// The most attributes whose widths are counted, so that each sum of them fits in a byte.
 const MOST_COUNTED: u32 = 15;
 
-// Whether one of the attributes so far gives an entry's addresses, and the widths of the first ones.
+// Whether one of the attributes so far gives an entry's addresses, and the widths of the first
+// ones.
 #[derive(Clone, Copy, Debug)]
 pub(crate) struct AttributeFacts {
     has_ranges: bool,
     bytes: u32,
     addresses: u32,
     offsets: u32,
-    // How many have these widths.
+    // How many attributes have these widths.
     counted: u32,
     // How many more can be counted: none after a form whose width isn't known.
     room: u32,
 }
 
 impl AttributeFacts {
-    // Of no attributes.
+    // The facts about no attributes.
     #[inline(always)]
     pub(crate) fn none() -> Self
         ensures knows { KnowsRead result [] }
@@ -43,7 +44,7 @@ impl AttributeFacts {
         }
     }
 
-    // With one attribute more.
+    // The facts with one more attribute.
     #[inline(always)]
     pub(crate) fn with(self, attribute: AttributeSpecification) -> Self
         requires { FitsInBytes self }
@@ -71,7 +72,7 @@ impl AttributeFacts {
         }
     }
 
-    // Whether one of the attributes gives an entry's addresses, or one more of this name.
+    // Whether one of the attributes, or one more of this name, gives an entry's addresses.
     #[inline(always)]
     fn has_ranges_with(self, name: DwAt) -> bool
         ensures { result ≡ (self.has_ranges || is_of_ranges name.0) }

@@ -1,4 +1,4 @@
-//! A declaration without its table.
+//! A declaration that outlives its table.
 
 ghost use Rattle.std.specs.Prelude.{◌≡◌, IfOk, IfErr};
 ghost use Rattle.gimli_core_readers.specs.Calls.{ReturnsAsOrNoMemory};
@@ -11,7 +11,8 @@ use gimli_core_readers::{EndianSlice, Endianity, Error};
 use std::alloc::Global;
 use std::marker::Model;
 
-/// What entries of one code have in common, without the table that declares it.
+/// What entries of one code have in common: a declaration that owns its attributes, and needs no
+/// table.
 #[derive(Debug)]
 pub struct OwnedAbbreviation {
     code: u64,
@@ -40,20 +41,21 @@ impl Model for OwnedAbbreviation {
 
     ghost coded = { declaration_coding };
 
-    ghost view = { λ a. declaration_of_parts a.code a.head (map attribute_view a.attributes.items) };
+    ghost view = { λ a. declaration_of_parts a.code a.head
+        (map attribute_view a.attributes.items) };
 
     ghost invariant = { λ a. KnowsAttributes a.head (map attribute_view a.attributes.items) };
 }
 
 impl OwnedAbbreviation {
-    /// The same as a table gives it.
+    /// The declaration, borrowed, as a table gives it.
     pub fn as_abbreviation(&self) -> Abbreviation<'_>
         ensures { result ≡ self.now }
     {
         Abbreviation::of_parts(self.code, self.head, self.attributes.as_slice())
     }
 
-    // A copy of a declaration, which outlives the table.
+    // A copy of a declaration.
     pub(crate) fn copy_of(alloc: Global, abbreviation: &Abbreviation<'_>) -> Result<Self, Error>
         ensures ok { IfOk result (λ copy. copy ≡ abbreviation.now) }
         ensures err { IfErr result (λ e. e ≡ Memory) }

@@ -59,7 +59,7 @@ impl<R: Reader> Section<R> for DebugAbbrev<R> {
 }
 
 impl<'a, E: Endianity> DebugAbbrev<EndianSlice<'a, E>> {
-    /// The section that these bytes are, the first of them at identifier 0.
+    /// The section with these bytes. The first has the identifier 0.
     pub fn new(section: &'a [u8], endian: E) -> Self
         ensures { result ≡ record { bytes = section.now; is_big = E.is_big endian; first = 0 } }
     {
@@ -68,7 +68,7 @@ impl<'a, E: Endianity> DebugAbbrev<EndianSlice<'a, E>> {
 }
 
 impl<R: Reader> DebugAbbrev<R> {
-    /// The section over what a function makes of its reader.
+    /// The same section with another reader, which a function makes of the section's own.
     pub fn borrow<'a, F, S>(&'a self, f: F) -> DebugAbbrev<S>
     where
         F: FnOnce(&'a R) -> S,
@@ -94,9 +94,9 @@ impl<R: Reader> DebugAbbrev<R> {
         table::parse(alloc, &mut place)
     }
 
-    /// Whether the table that begins at an offset can be read: refused exactly where it would be. A
-    /// table is read once, and none of it is kept. Takes no memory where the codes are 1, 2, .. in
-    /// order, as nearly all tables have them; else it takes that of the table for a time.
+    /// Checks that the table at an offset can be read: refused exactly where reading it would be.
+    /// The table is read once, and none of it is kept. Takes no memory where the codes are 1, 2, ..
+    /// in order, as in nearly all tables; else that of the table, for a time.
     pub fn check_abbreviations(
         &self,
         alloc: Global,
@@ -112,10 +112,10 @@ impl<R: Reader> DebugAbbrev<R> {
         checks::check(alloc, &place)
     }
 
-    /// The declaration of one code in the table that begins at an offset: refused exactly where the
+    /// The declaration of one code in the table at an offset: refused exactly where reading the
     /// table would be. The whole table is checked on the way, and nothing else of it is kept. Where
-    /// the codes are 1, 2, .. in order, a table is read once, and memory is taken for the attributes
-    /// of the declaration alone; else that of the table is taken too, for a time.
+    /// the codes are 1, 2, .. in order, the table is read once, and only the declaration's
+    /// attributes take memory; else the table takes its own too, for a time.
     pub fn find_abbreviation(
         &self,
         alloc: Global,
@@ -124,7 +124,7 @@ impl<R: Reader> DebugAbbrev<R> {
     ) -> Result<Option<OwnedAbbreviation>, Error>
         ensures value { ReturnsOrNoMemory result
             (find_declaration code (table_at (R.Offset.count offset.0) self.now)) }
-        // Where the codes are in order and none is found, this takes no memory.
+        // Where the codes are in order and the table hasn't this one, this takes no memory.
         ensures free { IsInOrder (declarations_at (R.Offset.count offset.0) self.now)
             → FindsNone (find_declaration code (table_at (R.Offset.count offset.0) self.now))
             → Returns result

@@ -21,25 +21,25 @@ use std::rc::Rc;
 
 const _: () = prove!(size_of::<StoredDeclaration>() == 16);
 
-// A declaration but for its code and its attributes, and where these end among all attributes, in
-// 16 bytes.
+// A declaration without its code and its attributes, and where these end among the attributes of
+// all declarations, in 16 bytes.
 #[derive(Clone, Copy, Debug)]
 pub(crate) struct StoredDeclaration {
     end: usize,
     head: Head,
 }
 
-// Declarations in the order of their bytes, no code twice.
+// Declarations in the order of their bytes. No code occurs twice.
 #[derive(Debug)]
 pub(crate) struct DeclarationList {
     declarations: Vec<StoredDeclaration>,
     // The attributes of all declarations, one after the other.
     attributes: Vec<AttributeSpecification>,
-    // How many of the first have the codes 1, 2, ..
+    // How many of them, from the first on, have the codes 1, 2, .. in order.
     in_order: usize,
-    // The codes of all others.
+    // The codes of the others.
     others: Vec<u64>,
-    // Their places.
+    // The places of the others, by their codes.
     places: BTreeMap<u64, usize>,
 }
 
@@ -76,7 +76,7 @@ impl Model for DeclarationList {
 }
 
 impl DeclarationList {
-    // How many there are.
+    // How many declarations there are.
     pub(crate) fn len(&self) -> usize
         ensures { result ≡ length self.now }
     {
@@ -120,7 +120,7 @@ impl DeclarationList {
         Abbreviation::of_parts(code, stored.head, attributes)
     }
 
-    // The same with no room to spare.
+    // The same list without spare capacity.
     fn shrunk(self) -> Self
         ensures { result ≡ self }
     {
@@ -182,7 +182,7 @@ fn has_place(in_order: usize, places: &BTreeMap<u64, usize>, code: u64) -> bool
     }
 }
 
-// Puts a place under a code.
+// Records the place of a code.
 fn put_place(places: &mut BTreeMap<u64, usize>, code: u64, place: usize) -> Result<(), Error>
     ensures ok { OnOk result ((other : ℕ) → get nat_cmp places.new other
         ≡ (if is_at (nat_cmp code) other then Some place else get nat_cmp places.old other)) }
@@ -221,7 +221,7 @@ impl Model for Abbreviations {
 }
 
 impl Abbreviations {
-    // The table of all declarations from one on, which shares them with the list.
+    // The table of a list's declarations from one on, which it shares with the list.
     pub(crate) fn from_list(list: &Rc<DeclarationList>, from: usize) -> Result<Self, Error>
         ensures ok { IfOk result (λ t. t ≡ by_code (drop from list.now.value)) }
         ensures err { IfErr result (λ e. e ≡ Memory) }
@@ -232,8 +232,8 @@ impl Abbreviations {
         })
     }
 
-    /// The declaration of a code, borrowed from the table. It takes constant time where the codes 1,
-    /// 2, .. came in order, else that of a bisection.
+    /// The declaration of a code, borrowed from the table. Takes constant time for the codes that
+    /// came as 1, 2, .. in order, and that of a bisection for others.
     #[inline(always)]
     pub fn get(&self, code: u64) -> Option<Abbreviation<'_>>
         ensures { result ≡ declaration_at code self.now }

@@ -10,12 +10,13 @@ use Rattle.gimli_dwarf_spec.specs.EntryRows.{Row}
 use Rattle.gimli_dwarf_spec.specs.EntryViews.{attribute_named}
 use Rattle.gimli_dwarf_spec.specs.AttributeMeanings.{value_under}
 use Rattle.gimli_dwarf_spec.specs.AttributeValues.{RawValue, RawAttribute}
+use Rattle.gimli_dwarf_spec.specs.Attributes.{Bases}
 use Rattle.gimli_dwarf_spec.specs.UnitHeaders.{DebugUnit}
 use Rattle.gimli_dwarf_spec.specs.LineHeaders.{LineHeader}
 use Rattle.gimli_dwarf_spec.specs.Results.{and_then}
 use Rattle.gimli_dwarf_spec.specs.DwarfFiles.{DwarfFile}
 use Rattle.gimli_dwarf_spec.specs.UnitFacts.{UnitFacts, root, dwo_name, dwo_name_number, facts_of, dwo_id_in, dwo_id_of, line_header_of, address_or_0}
-use Rattle.gimli_dwarf.specs.RootValues.{RootValues, TableBases, root_values, tables_of}
+use Rattle.gimli_dwarf.specs.RootValues.{RootValues, root_values, bases_in}
 use Rattle.gimli_dwarf.specs.Roots.{facts_without_texts, facts_with_texts, line_unit, with_program_and_begin, facts_with_program}
 use Rattle.gimli_dwarf.proofs.RootValueSteps.{ok_values}
 
@@ -30,17 +31,17 @@ abbrev pub ok_facts : UnitFacts → Result UnitFacts Error
 ok_facts u = Ok u
 
 pub facts_by_steps : (file : DwarfFile) (u : DebugUnit) (table : List Declaration)
-    (attributes : List RawAttribute) (r found : RootValues) (file_type : DwarfFileType) (tables : TableBases)
+    (attributes : List RawAttribute) (r found : RootValues) (file_type : DwarfFileType) (bases : Bases)
     (id : Option ℕ) (first second : UnitFacts)
     → r ≡ found
     → file_type ≡ file.sections.file_type
     → ok_values (root_values attributes) ≡ ok_values found
-    → tables ≡ tables_of file_type u.encoding found
+    → bases ≡ bases_in file_type u.encoding found
     → id ≡ option_or (dwo_id_in u.kind) (option_and_then dwo_id_of r.dwo_id)
-    → first ≡ facts_without_texts u table tables id
+    → first ≡ facts_without_texts u table bases id
     → ok_facts (facts_with_texts file first r.name r.comp_dir) ≡ ok_facts second
     → facts_with_program file second r.line r.low_pc ≡ facts_of file u table attributes
-facts_by_steps file u table attributes r found file_type tables id first second is type read based identified bare
+facts_by_steps file u table attributes r found file_type bases id first second is type read based identified bare
     named =
     let all : root_values attributes ≡ found = cc in
     let one : root_values attributes ≡ r = all ∙ sym is in
@@ -49,17 +50,17 @@ facts_by_steps file u table attributes r found file_type tables id first second 
     ∙ ap (λ (x : UnitFacts). facts_with_program file (facts_with_texts file x r.name r.comp_dir) r.line r.low_pc) bare
     ∙ ap (λ b. facts_with_program file
     (facts_with_texts file (facts_without_texts u table b id) r.name r.comp_dir) r.line r.low_pc)
-    (based ∙ ap (tables_of file_type u.encoding) (sym is))
+    (based ∙ ap (bases_in file_type u.encoding) (sym is))
     ∙ ap (λ d. facts_with_program file
-    (facts_with_texts file (facts_without_texts u table (tables_of file_type u.encoding r) d) r.name r.comp_dir)
+    (facts_with_texts file (facts_without_texts u table (bases_in file_type u.encoding r) d) r.name r.comp_dir)
     r.line r.low_pc) identified
     ∙ ap (λ (x : RootValues). facts_with_program file
     (facts_with_texts file
-    (facts_without_texts u table (tables_of file_type u.encoding x)
+    (facts_without_texts u table (bases_in file_type u.encoding x)
     (option_or (dwo_id_in u.kind) (option_and_then dwo_id_of x.dwo_id))) x.name x.comp_dir) x.line x.low_pc) (sym one)
     ∙ ap (λ t. let x : RootValues = root_values attributes in facts_with_program file
     (facts_with_texts file
-    (facts_without_texts u table (tables_of t u.encoding x)
+    (facts_without_texts u table (bases_in t u.encoding x)
     (option_or (dwo_id_in u.kind) (option_and_then dwo_id_of x.dwo_id))) x.name x.comp_dir) x.line x.low_pc) type
 
 module _ (file : DwarfFile) (u : UnitFacts) (line : Option ℕ) (low_pc : Option RawValue) (e : Error) where
@@ -117,13 +118,13 @@ facts_of-parts : (file : DwarfFile) (u : DebugUnit) (table : List Declaration) (
     → (f.header ≡ u) × (f.table ≡ table)
 facts_of-parts file u table attributes f h =
     let r : RootValues = root_values attributes in
-    let tables : TableBases = tables_of file.sections.file_type u.encoding r in
+    let bases : Bases = bases_in file.sections.file_type u.encoding r in
     let id : Option ℕ = option_or (dwo_id_in u.kind) (option_and_then dwo_id_of r.dwo_id) in
-    let first : UnitFacts = facts_without_texts u table tables id in
+    let first : UnitFacts = facts_without_texts u table bases id in
     let second : UnitFacts = facts_with_texts file first r.name r.comp_dir in
     program-parts second (line_header_of file (line_unit second) r.line)
     (address_or_0 file second.bases r.low_pc) f
-    (facts_by_steps file u table attributes r r file.sections.file_type tables id first second refl refl refl refl refl
+    (facts_by_steps file u table attributes r r file.sections.file_type bases id first second refl refl refl refl refl
     refl refl
     ∙ h)
 

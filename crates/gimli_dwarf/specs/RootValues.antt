@@ -1,12 +1,12 @@
 -- What the attributes of a root say of its unit.
-use Rattle.std.specs.Prelude.{ℕ, List, Option, None, unwrap_or}
+use Rattle.std.specs.Prelude.{ℕ, List, Option, None}
 use Rattle.std.specs.Option.{option_or}
 use Rattle.gimli_dwarf_spec.specs.AttributeMeanings.{value_under}
 use Rattle.gimli_dwarf_spec.specs.AttributeValues.{RawValue, RawAttribute}
-use Rattle.gimli_dwarf_spec.specs.DefaultBases.{default_base, string_offsets_header_size, lists_header_size}
+use Rattle.gimli_dwarf_spec.specs.Attributes.{Bases}
 use Rattle.gimli_dwarf_spec.specs.DwarfFileType.{DwarfFileType}
 use Rattle.gimli_dwarf_spec.specs.Encoding.{Encoding}
-use Rattle.gimli_dwarf_spec.specs.UnitFacts.{value_of_kind, last_value_of_kind, any_value, last_value, is_name, is_comp_dir, is_low_pc, is_dwo_id, is_stmt_list, is_str_offsets_base, is_addr_base, is_loclists_base, is_rnglists_base, line_reference_of, string_offsets_base_of, address_base_of, location_lists_base_of, range_lists_base_of}
+use Rattle.gimli_dwarf_spec.specs.UnitFacts.{bases_or_default, value_of_kind, last_value_of_kind, any_value, last_value, is_name, is_comp_dir, is_low_pc, is_dwo_id, is_stmt_list, is_str_offsets_base, is_addr_base, is_loclists_base, is_rnglists_base, line_reference_of, string_offsets_base_of, address_base_of, location_lists_base_of, range_lists_base_of}
 
 -- what an attribute's name makes of its value
 abbrev pub named_value : RawAttribute → RawValue
@@ -69,19 +69,7 @@ with_attribute a r = record {
   rnglists = option_or (value_of_kind range_lists_base_of is_rnglists_base a) r.rnglists;
 }
 
--- where the tables of a unit begin
-pub record TableBases : Type 0 where
-  pub str_offsets : ℕ
-  pub addr : ℕ
-  pub loclists : ℕ
-  pub rnglists : ℕ
-
--- the bases that a root names, and where it names none the default ones
-abbrev pub tables_of : DwarfFileType → Encoding → RootValues → TableBases
-tables_of file_type e r = record {
-  str_offsets =
-      unwrap_or r.str_offsets (default_base e file_type (string_offsets_header_size e.format));
-  addr = unwrap_or r.addr 0;
-  loclists = unwrap_or r.loclists (default_base e file_type (lists_header_size e.format));
-  rnglists = unwrap_or r.rnglists (default_base e file_type (lists_header_size e.format));
-}
+-- the bases of a unit whose root says this
+abbrev pub bases_in : DwarfFileType → Encoding → RootValues → Bases
+bases_in file_type e r =
+    bases_or_default file_type e r.str_offsets r.addr r.loclists r.rnglists

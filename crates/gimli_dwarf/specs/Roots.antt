@@ -3,29 +3,22 @@ use Rattle.std.specs.Prelude.{ℕ, List, Option, None, Result, Ok}
 use Rattle.gimli_dwarf_spec.specs.Error.{Error}
 use Rattle.gimli_dwarf_spec.specs.Declarations.{Declaration}
 use Rattle.gimli_dwarf_spec.specs.AttributeValues.{RawValue}
+use Rattle.gimli_dwarf_spec.specs.Attributes.{Bases}
 use Rattle.gimli_dwarf_spec.specs.UnitHeaders.{DebugUnit}
 use Rattle.gimli_dwarf_spec.specs.LineHeaders.{LineHeader}
 use Rattle.gimli_dwarf_spec.specs.HeaderParsing.{LineUnit}
 use Rattle.gimli_dwarf_spec.specs.Results.{◌>>=◌}
 use Rattle.gimli_dwarf_spec.specs.DwarfFiles.{DwarfFile}
 use Rattle.gimli_dwarf_spec.specs.UnitFacts.{UnitFacts, with_low_pc, readable_text, line_header_of, address_or_0}
-use Rattle.gimli_dwarf.specs.RootValues.{TableBases}
 
--- its header, its declarations, where its tables begin and its identifier
-abbrev pub facts_without_texts : DebugUnit → List Declaration → TableBases → Option ℕ → UnitFacts
-facts_without_texts u table tables dwo_id = record {
+-- its header, its declarations, its bases and its identifier
+abbrev pub facts_without_texts : DebugUnit → List Declaration → Bases → Option ℕ → UnitFacts
+facts_without_texts u table bases dwo_id = record {
   header = u;
   table = table;
   name = None;
   comp_dir = None;
-  bases = record {
-    encoding = u.encoding;
-    low_pc = 0;
-    str_offsets_base = tables.str_offsets;
-    addr_base = tables.addr;
-    loclists_base = tables.loclists;
-    rnglists_base = tables.rnglists;
-  };
+  bases = bases;
   line_header = None;
   dwo_id = dwo_id;
 }

@@ -7,14 +7,15 @@ ghost use Rattle.gimli_dwarf_spec.specs.AttributeValues.{raw_value_of, raw_attri
 ghost use Rattle.gimli_dwarf_spec.specs.EntryViews.{entry_of, raw_attributes};
 ghost use Rattle.gimli_dwarf_spec.specs.UnitFacts.{root, value_of_kind, any_value};
 ghost use Rattle.gimli_dwarf.specs.RootBases.{names_base, offset_of_base};
-ghost use Rattle.gimli_dwarf.specs.RootValues.{named_value, no_values, root_values, tables_of, with_attribute};
+ghost use Rattle.gimli_dwarf.specs.RootValues.{named_value, no_values, root_values, bases_in, with_attribute};
 
 use gimli_dwarf_spec::{
     Abbreviations, Attribute, AttributeValue, DW_AT_GNU_addr_base, DW_AT_GNU_dwo_id,
     DW_AT_GNU_ranges_base, DW_AT_addr_base, DW_AT_comp_dir, DW_AT_loclists_base, DW_AT_low_pc,
     DW_AT_name, DW_AT_rnglists_base, DW_AT_stmt_list, DW_AT_str_offsets_base, DebugAddrBase,
     DebugLocListsBase, DebugRngListsBase, DebugStrOffsetsBase, DebuggingInformationEntry,
-    DefaultBase, DwAt, DwarfFileType, Error, Reader, ReaderOffset, UnitHeader, entries_raw,
+    DefaultBase, DwAt, DwarfFileType, Encoding, Error, Reader, ReaderOffset, UnitHeader,
+    entries_raw,
 };
 use std::alloc::Global;
 use std::marker::Model;
@@ -237,6 +238,7 @@ impl<R: Reader> RootAttributes<R> {
 // Where the tables of a unit begin: the bases that its root names, and else the default ones.
 #[derive(Drop)]
 pub(crate) struct UnitBases<R: Reader> {
+    pub(crate) encoding: Encoding,
     pub(crate) str_offsets: DebugStrOffsetsBase<R::Offset>,
     pub(crate) addr: DebugAddrBase<R::Offset>,
     pub(crate) loclists: DebugLocListsBase<R::Offset>,
@@ -244,15 +246,17 @@ pub(crate) struct UnitBases<R: Reader> {
 }
 
 impl<R: Reader> Model for UnitBases<R> {
-    ghost use Rattle.gimli_dwarf.specs.RootValues.{TableBases};
+    ghost use Rattle.gimli_dwarf_spec.specs.Attributes.{Bases};
 
-    ghost Value = { TableBases };
+    ghost Value = { Bases };
 
     ghost view = { λ b. record {
-      str_offsets = R.Offset.count b.str_offsets.0;
-      addr = R.Offset.count b.addr.0;
-      loclists = R.Offset.count b.loclists.0;
-      rnglists = R.Offset.count b.rnglists.0;
+      encoding = b.encoding;
+      low_pc = 0;
+      str_offsets_base = R.Offset.count b.str_offsets.0;
+      addr_base = R.Offset.count b.addr.0;
+      loclists_base = R.Offset.count b.loclists.0;
+      rnglists_base = R.Offset.count b.rnglists.0;
     } };
 }
 
@@ -263,13 +267,14 @@ impl<R: Reader> UnitBases<R> {
         header: &UnitHeader<R>,
         found: &RootAttributes<R>,
     ) -> Self
-        ensures { result ≡ tables_of file_type header.now.encoding found.now }
+        ensures { result ≡ bases_in file_type header.now.encoding found.now }
     {
         let encoding = header.encoding();
         let strings = DebugStrOffsetsBase::default_for_encoding_and_file(encoding, file_type);
         let locations = DebugLocListsBase::default_for_encoding_and_file(encoding, file_type);
         let ranges = DebugRngListsBase::default_for_encoding_and_file(encoding, file_type);
         UnitBases {
+            encoding,
             str_offsets: DebugStrOffsetsBase(found.str_offsets.unwrap_or(strings.0)),
             addr: DebugAddrBase(found.addr.unwrap_or(R::Offset::from_u8(0))),
             loclists: DebugLocListsBase(found.loclists.unwrap_or(locations.0)),

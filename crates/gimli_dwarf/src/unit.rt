@@ -131,6 +131,7 @@ impl<R: Reader> Unit<R> {
         bases: UnitBases<R>,
         dwo_id: Option<DwoId>,
     ) -> Self
+        requires { bases.encoding ≡ header.encoding }
         ensures { result
             ≡ facts_without_texts header abbreviations.value bases
             (option_map (λ id. id.0) dwo_id) }

@@ -132,23 +132,28 @@ dwo_id_of _ = None
 
 -- ---- the facts
 
--- The bases that a root names, and where it names none the default ones. Addresses of entries count
--- from 0 until low_pc is read.
-abbrev pub bases_of : DwarfFileType → Encoding → List RawAttribute → Bases
-bases_of file_type e attributes = record {
+-- The bases of a unit that these are named for, and the default ones where none is. Addresses of
+-- entries count from 0 until low_pc is read.
+abbrev pub bases_or_default : DwarfFileType → Encoding → Option ℕ → Option ℕ → Option ℕ → Option ℕ
+    → Bases
+bases_or_default file_type e str_offsets addr loclists rnglists = record {
   encoding = e;
   low_pc = 0;
   str_offsets_base =
-      unwrap_or (last_value_of_kind string_offsets_base_of is_str_offsets_base attributes)
-      (default_base e file_type (string_offsets_header_size e.format));
-  addr_base = unwrap_or (last_value_of_kind address_base_of is_addr_base attributes) 0;
-  loclists_base =
-      unwrap_or (last_value_of_kind location_lists_base_of is_loclists_base attributes)
-      (default_base e file_type (lists_header_size e.format));
-  rnglists_base =
-      unwrap_or (last_value_of_kind range_lists_base_of is_rnglists_base attributes)
-      (default_base e file_type (lists_header_size e.format));
+      unwrap_or str_offsets (default_base e file_type (string_offsets_header_size e.format));
+  addr_base = unwrap_or addr 0;
+  loclists_base = unwrap_or loclists (default_base e file_type (lists_header_size e.format));
+  rnglists_base = unwrap_or rnglists (default_base e file_type (lists_header_size e.format));
 }
+
+-- those that a root names
+abbrev pub bases_of : DwarfFileType → Encoding → List RawAttribute → Bases
+bases_of file_type e attributes =
+    bases_or_default file_type e
+    (last_value_of_kind string_offsets_base_of is_str_offsets_base attributes)
+    (last_value_of_kind address_base_of is_addr_base attributes)
+    (last_value_of_kind location_lists_base_of is_loclists_base attributes)
+    (last_value_of_kind range_lists_base_of is_rnglists_base attributes)
 
 -- the same with the address that a unit begins at
 abbrev pub with_low_pc : ℕ → Bases → Bases

@@ -16,8 +16,8 @@ pub use gimli_units_entries::{
     DW_AT_rnglists_base, DW_AT_specification, DW_AT_stmt_list, DW_AT_str_offsets_base,
     DW_TAG_partial_unit, DebugAbbrevOffset, DebugAddrBase, DebugAddrIndex, DebugLineOffset,
     DebugLocListsBase, DebugRngListsBase, DebugRngListsIndex, DebugStrOffset, DebugStrOffsetsBase,
-    DebuggingInformationEntry, DwAt, DwarfFileType, DwoId, EntriesRaw, Error, RangeListsOffset,
-    RawRangeListsOffset, ReaderOffset, SectionId,
+    DebuggingInformationEntry, DwAt, DwarfFileType, DwoId, Encoding, EntriesRaw, Error,
+    RangeListsOffset, RawRangeListsOffset, ReaderOffset, SectionId,
 };
 pub use gimli_units_lists::{
     DebugAddr, DebugInfoOffset, DebugLineStr, DebugRanges, DebugRngLists, DebugStr,

@@ -6,7 +6,7 @@ pub use gimli_lines_rows::{
     BorrowedLineProgram, ColumnType, CompleteLineProgram, DebugLine, Error, FileEntry,
     FileEntryFormat, IncompleteLineProgram, LineInstruction, LineInstructions, LineProgram,
     LineProgramHeader, LinePrograms, LineRow, LineRows, LineRules, LineSequence,
-    ProgramInstructions, Reader,
+    ProgramInstructions, Reader, RowSink,
 };
 
 /// Line number programs as they are built and written.

@@ -195,3 +195,6 @@ pub refused_same : {S A B : Type 0} (r : Result (A × S) Error) (f : A → B) (d
     → proceed r (λ _. give (tt {0})) ≡ Err d → proceed r (λ x. give (f x)) ≡ Err d
 refused_same {S} {A} {B} r f d h =
     ap (λ (q : Result (A × S) Error). proceed q (λ x. give (f x))) (refused_read (λ _. tt {0}) r d h)
+
+-- either answer
+pub ruleset same_answers = (checked_same, refused_same)

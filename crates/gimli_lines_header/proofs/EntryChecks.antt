@@ -158,7 +158,8 @@ file_of facts path = record {
 
 -- an entry whose path is there
 path_read : {A : Type 0} (f : RawValue → A) (o : Option RawValue) (w : View) → IsThere o
-    → proceed (proceed (some_or MissingFileEntryFormatPath o w) (λ path. give (f path))) (λ _. give (tt {0})) ≡ left_at w
+    → proceed (proceed (some_or MissingFileEntryFormatPath o w) (λ path. give (f path))) (λ _. give (tt {0}))
+    ≡ left_at w
 path_read f None w there = let no = there.1 in absurd cc
 path_read f (Some x) w there = refl
 
@@ -276,3 +277,6 @@ described_directories limit e v = directories_by limit e (entry_formats v)
 pub described_files : (limit : ℕ) (e : Encoding) (v : View) → check (files_of_5 limit e) v ≡ described limit e v
 unfolding files_of_5
 described_files limit e v = files_by limit e (entry_formats v) (λ formats w is. formats_have_path v w formats is)
+
+-- both tables
+pub ruleset described_tables = (described_directories, described_files)

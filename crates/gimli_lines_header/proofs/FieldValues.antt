@@ -6,7 +6,7 @@ use Rattle.std.specs.Prelude.{◌==◌, not, nat_lt}
 use Rattle.gimli_units_headers.specs.Error.{Error}
 use Rattle.gimli_units_headers.specs.Error.TheVariants.{UnknownForm}
 use Rattle.gimli_units_headers.specs.View.{View, after, bytes_left, unexpected_end}
-use Rattle.gimli_units_headers.specs.Parsers.{Parser, ◌>>=◌, proceed, give, lift, map_value, null_terminated, skip, find_byte, text_to}
+use Rattle.gimli_units_headers.specs.Parsers.{Parser, ◌>>=◌, proceed, give, lift, part, map_value, null_terminated, skip, find_byte, text_to}
 use Rattle.gimli_units_headers.specs.Encoding.{Encoding}
 use Rattle.gimli_units_headers.specs.FormatSizes.{word_size}
 use Rattle.gimli_units_headers.specs.NumberParsers.{fixed, unsigned, signed, word, sized_offset, offset_below, initial_length, length_of}
@@ -25,7 +25,8 @@ both_false true = refl
 both_false false = refl
 
 -- under no name, data of an offset's width is a number
-pub number_is : (limit : ℕ) (e : Encoding) (form n : ℕ) → number_value limit e 0 form n ≡ meaning_in meanings form limit n
+pub number_is : (limit : ℕ) (e : Encoding) (form n : ℕ)
+    → number_value limit e 0 form n ≡ meaning_in meanings form limit n
 unfolding number_value
 number_is limit e form n =
     ap (λ (b : Bool). cond b (offset section_offset limit n) (meaning_in meanings form limit n))
@@ -96,6 +97,9 @@ pub initial_length_is : (limit : ℕ) (v : View)
 unfolding initial_length
 initial_length_is limit v = refl
 
+-- those of a length
+pub ruleset length_parts = (initial_length_is, sized_offset_is)
+
 -- ---- form by form
 
 pub data_1_is : (limit : ℕ) (e : Encoding) (v : View) → entry_value limit e 0x0b v ≡ map_value data_1 (fixed 1) v
@@ -136,49 +140,53 @@ pub string_is : (limit : ℕ) (e : Encoding) (v : View) → entry_value limit e 
 unfolding spelling
 string_is limit e v = field_is limit e 0x08 v refl refl
 
-pub block_is : (limit : ℕ) (e : Encoding) (v : View)
-    → entry_value limit e 0x09 v ≡ map_value block (bytes_by_length limit unsigned) v
-unfolding spelling
+-- a block, after a length that is read so
+abbrev pub block_by : ℕ → Parser ℕ → Parser RawValue
+block_by limit length = map_value block (length >>= λ n. lift (offset_below limit n) >>= part)
+
+pub block_is : (limit : ℕ) (e : Encoding) (v : View) → entry_value limit e 0x09 v ≡ block_by limit unsigned v
+unfolding spelling bytes_by_length
 block_is limit e v = field_is limit e 0x09 v refl refl
 
-pub block_1_is : (limit : ℕ) (e : Encoding) (v : View)
-    → entry_value limit e 0x0a v ≡ map_value block (bytes_by_length limit (fixed 1)) v
-unfolding spelling
+pub block_1_is : (limit : ℕ) (e : Encoding) (v : View) → entry_value limit e 0x0a v ≡ block_by limit (fixed 1) v
+unfolding spelling bytes_by_length
 block_1_is limit e v = field_is limit e 0x0a v refl refl
 
-pub block_2_is : (limit : ℕ) (e : Encoding) (v : View)
-    → entry_value limit e 0x03 v ≡ map_value block (bytes_by_length limit (fixed 2)) v
-unfolding spelling
+pub block_2_is : (limit : ℕ) (e : Encoding) (v : View) → entry_value limit e 0x03 v ≡ block_by limit (fixed 2) v
+unfolding spelling bytes_by_length
 block_2_is limit e v = field_is limit e 0x03 v refl refl
 
-pub block_4_is : (limit : ℕ) (e : Encoding) (v : View)
-    → entry_value limit e 0x04 v ≡ map_value block (bytes_by_length limit (fixed 4)) v
-unfolding spelling
+pub block_4_is : (limit : ℕ) (e : Encoding) (v : View) → entry_value limit e 0x04 v ≡ block_by limit (fixed 4) v
+unfolding spelling bytes_by_length
 block_4_is limit e v = field_is limit e 0x04 v refl refl
 
 pub strp_is : (limit : ℕ) (e : Encoding) (v : View)
     → entry_value limit e 0x0e v ≡ map_value string_reference (word limit e.format) v
 unfolding spelling word sized_offset
 strp_is limit e v =
-    field_is limit e 0x0e v refl refl ∙ offset_read limit e 0x0e string_reference (fixed (word_size e.format) v) (λ n. refl)
+    field_is limit e 0x0e v refl refl
+    ∙ offset_read limit e 0x0e string_reference (fixed (word_size e.format) v) (λ n. refl)
 
 pub line_strp_is : (limit : ℕ) (e : Encoding) (v : View)
     → entry_value limit e 0x1f v ≡ map_value line_string_reference (word limit e.format) v
 unfolding spelling word sized_offset
 line_strp_is limit e v =
-    field_is limit e 0x1f v refl refl ∙ offset_read limit e 0x1f line_string_reference (fixed (word_size e.format) v) (λ n. refl)
+    field_is limit e 0x1f v refl refl
+    ∙ offset_read limit e 0x1f line_string_reference (fixed (word_size e.format) v) (λ n. refl)
 
 pub strp_sup_is : (limit : ℕ) (e : Encoding) (v : View)
     → entry_value limit e 0x1d v ≡ map_value string_reference_sup (word limit e.format) v
 unfolding spelling word sized_offset
 strp_sup_is limit e v =
-    field_is limit e 0x1d v refl refl ∙ offset_read limit e 0x1d string_reference_sup (fixed (word_size e.format) v) (λ n. refl)
+    field_is limit e 0x1d v refl refl
+    ∙ offset_read limit e 0x1d string_reference_sup (fixed (word_size e.format) v) (λ n. refl)
 
 pub sec_offset_is : (limit : ℕ) (e : Encoding) (v : View)
     → entry_value limit e 0x17 v ≡ map_value section_offset (word limit e.format) v
 unfolding spelling word sized_offset
 sec_offset_is limit e v =
-    field_is limit e 0x17 v refl refl ∙ offset_read limit e 0x17 section_offset (fixed (word_size e.format) v) (λ n. refl)
+    field_is limit e 0x17 v refl refl
+    ∙ offset_read limit e 0x17 section_offset (fixed (word_size e.format) v) (λ n. refl)
 
 -- an index among the offsets of strings, of a number that is read so
 abbrev pub index_by : ℕ → Parser ℕ → Parser RawValue
@@ -208,6 +216,39 @@ pub strx_4_is : (limit : ℕ) (e : Encoding) (v : View) → entry_value limit e 
 unfolding spelling
 strx_4_is limit e v =
     field_is limit e 0x28 v refl refl ∙ offset_read limit e 0x28 string_offsets_index (fixed 4 v) (λ n. refl)
+
+-- ---- the forms of some fields
+
+-- the usual ones of a path
+pub ruleset path_forms = (line_strp_is, strp_is, string_is)
+
+-- the usual ones of a directory's number
+pub ruleset directory_forms = (udata_is, data_1_is, data_2_is)
+
+-- those of a number
+pub ruleset number_forms = (directory_forms, data_4_is, data_8_is, sdata_is)
+
+-- the usual ones of version 5
+pub ruleset usual_forms = (line_strp_is, udata_is, data_16_is)
+
+-- all
+pub ruleset entry_forms = (
+  path_forms,
+  number_forms,
+  data_16_is,
+  flag_is,
+  block_is,
+  block_1_is,
+  block_2_is,
+  block_4_is,
+  strp_sup_is,
+  sec_offset_is,
+  strx_is,
+  strx_1_is,
+  strx_2_is,
+  strx_3_is,
+  strx_4_is,
+)
 
 -- ---- texts that are skipped
 

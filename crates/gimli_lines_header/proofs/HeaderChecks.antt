@@ -46,8 +46,8 @@ parts_of limit directory name b v =
     passes (directories limit b.encoding t) _ _ (λ ds u.
     forgets (files limit b.encoding u) _)))
 
-pub fields_checked : (limit : ℕ) (directory name : Option View) (b : Bounds) (e : Encoding) → b.encoding ≡ e → (v : View)
-    → check (header_fields limit directory name b) v ≡ parts_check limit e v
+pub fields_checked : (limit : ℕ) (directory name : Option View) (b : Bounds) (e : Encoding) → b.encoding ≡ e
+    → (v : View) → check (header_fields limit directory name b) v ≡ parts_check limit e v
 fields_checked limit directory name b e same v =
     parts_of limit directory name b v ∙ ap (λ (x : Encoding). parts_check limit x v) same
 

@@ -2,6 +2,7 @@ pub use Rattle.gimli_units_headers.proofs.ArangeSetLemmas
 pub use Rattle.gimli_units_headers.proofs.TilingLemmas
 pub use Rattle.gimli_units_headers.proofs.UnitHeaderLemmas
 mod NumberedItems
+mod Unfoldings
 mod TableLoops
 mod CheckSteps
 mod TextChecks

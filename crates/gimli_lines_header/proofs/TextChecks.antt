@@ -19,14 +19,16 @@ There = Result (Bool × View) Error
 -- ---- directories
 
 abbrev directory_by : View → View → Bool → There
-directory_by text s b = proceed (cond b (Ok (None, s)) (Ok (Some (string text), s))) (λ (o : Option RawValue). give (is_some o))
+directory_by text s b =
+    proceed (cond b (Ok (None, s)) (Ok (Some (string text), s))) (λ (o : Option RawValue). give (is_some o))
 
 directory_is : (text s : View) (b : Bool) → directory_by text s b ≡ read (not b) s
 directory_is text s true = refl
 directory_is text s false = refl
 
 abbrev directory_of : Result (View × View) Error → There
-directory_of r = proceed (proceed r (λ text s. cond (eqb (bytes_left text) 0) (Ok (None, s)) (Ok (Some (string text), s))))
+directory_of r =
+    proceed (proceed r (λ text s. cond (eqb (bytes_left text) 0) (Ok (None, s)) (Ok (Some (string text), s))))
     (λ (o : Option RawValue). give (is_some o))
 
 pub directory_there : (v w : View) (n : ℕ) → map_value bytes_left null_terminated v ≡ Ok (n, w)

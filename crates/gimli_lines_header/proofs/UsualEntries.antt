@@ -158,7 +158,8 @@ usual_file_with_digest limit e path directory digest v s t u x n md5 file first 
     let order : t.is_big ≡ v.is_big = same_order v t (IsAfter-IsAfter v s t (value-after limit e path v s x first)
     (value-after limit e directory s t number.0 number.1)) in
     let last = format_of md5_content digest ∷ [] in
-    let fields = field_first limit e (format_of path_content path) (format_of directory_content directory ∷ last) v s u x
+    let fields = field_first limit e (format_of path_content path) (format_of directory_content directory ∷ last)
+    v s u x
     (record { content = directory_content; value = number.0 } ∷ record { content = md5_content; value = bytes.0 } ∷ [])
     first
     (field_first limit e (format_of directory_content directory) last s t u number.0
@@ -170,7 +171,8 @@ usual_file_with_digest limit e path directory digest v s t u x n md5 file first 
     fields refl
     ∙ ap (λ (b : Bool). read (file_of_fields x (unwrap_or (unsigned_of number.0) 0)
     (unwrap_or (digest_of b bytes.0) no_md5)) u) (sym order)
-    ∙ ap (λ (o : Option (List ℕ)). read (file_of_fields x (unwrap_or (unsigned_of number.0) 0) (unwrap_or o no_md5)) u) bytes.2
+    ∙ ap (λ (o : Option (List ℕ)).
+    read (file_of_fields x (unwrap_or (unsigned_of number.0) 0) (unwrap_or o no_md5)) u) bytes.2
     ∙ ap (λ (o : Option ℕ). read (file_of_fields x (unwrap_or o 0) md5) u) number.2
     ∙ ap (λ (f : FileFacts). read f u) (sym is)
 
@@ -181,7 +183,8 @@ unfolding entry_fields
 Goes-entry_fields limit e [] = Goes-give []
 Goes-entry_fields limit e (format ∷ formats) =
     Goes-onward (entry_value limit e format.form.0)
-    (λ x. entry_fields limit e formats >>= λ fields. give (record { content = format.content_type.0; value = x } ∷ fields))
+    (λ x. entry_fields limit e formats
+    >>= λ fields. give (record { content = format.content_type.0; value = x } ∷ fields))
     (Goes-entry_value limit e format.form.0)
     (λ x. Goes-onward (entry_fields limit e formats)
     (λ fields. give (record { content = format.content_type.0; value = x } ∷ fields))

@@ -141,7 +141,7 @@ fn check_counted_entries<O: ReaderOffset, I: Reader>(
 }
 
 // Checks formats, and as many entries as a number says.
-#[tactic(auto, using(crate::proofs::EntryChecks::described_directories, crate::proofs::EntryChecks::described_files))]
+#[tactic(auto, using(crate::proofs::EntryChecks::described_tables))]
 fn check_described<O: ReaderOffset, I: Reader>(
     input: &mut I,
     encoding: Encoding,
@@ -212,7 +212,7 @@ fn check_fields<O: ReaderOffset, I: Reader>(input: &mut I, encoding: Encoding) -
 }
 
 // An initial length and its format, as an offset of another type than the reader's.
-#[tactic(auto, using(crate::proofs::FieldValues::initial_length_is, crate::proofs::FieldValues::sized_offset_is))]
+#[tactic(auto, using(crate::proofs::FieldValues::length_parts))]
 fn read_initial_length<O: ReaderOffset, I: Reader>(input: &mut I) -> Result<(O, Format), Error>
     ensures { ReturnsAs (λ p. ((O.count p.0, p.1), I.view input.new)) result
         (initial_length O.limit (I.view input.old)) }

@@ -116,7 +116,7 @@ fn parse_other_value<R: Reader>(
 }
 
 // The value of a field, as it is spelled: the usual forms of paths at once.
-#[tactic(auto, using(crate::proofs::FieldValues::line_strp_is, crate::proofs::FieldValues::strp_is, crate::proofs::FieldValues::string_is))]
+#[tactic(auto, using(crate::proofs::FieldValues::path_forms))]
 #[inline(always)]
 pub(crate) fn parse_value<R: Reader>(
     input: &mut R,
@@ -145,7 +145,7 @@ pub(crate) fn parse_value<R: Reader>(
 }
 
 // The unsigned number of a field, none where the value isn't one.
-#[tactic(auto, using(crate::proofs::FieldValues::udata_is, crate::proofs::FieldValues::data_1_is, crate::proofs::FieldValues::data_2_is, crate::proofs::FieldValues::data_4_is, crate::proofs::FieldValues::data_8_is, crate::proofs::FieldValues::sdata_is))]
+#[tactic(auto, using(crate::proofs::FieldValues::number_forms))]
 #[inline(always)]
 pub(crate) fn parse_number<R: Reader>(
     input: &mut R,
@@ -247,7 +247,7 @@ pub(crate) fn skip_text<I: Reader>(input: &mut I) -> Result<u64, Error>
 
 // Checks the value of a field: the same refusal as reading, or none, and nothing is kept. The usual
 // forms at once.
-#[tactic(auto, using(crate::proofs::FieldValues::line_strp_is, crate::proofs::FieldValues::udata_is, crate::proofs::FieldValues::data_16_is))]
+#[tactic(auto, using(crate::proofs::FieldValues::usual_forms))]
 #[inline(always)]
 pub(crate) fn check_value<O: ReaderOffset, I: Reader>(
     input: &mut I,
@@ -273,7 +273,7 @@ pub(crate) fn check_value<O: ReaderOffset, I: Reader>(
 }
 
 // The same of every form.
-#[tactic(auto, using(crate::proofs::FieldValues::line_strp_is, crate::proofs::FieldValues::strp_is, crate::proofs::FieldValues::strp_sup_is, crate::proofs::FieldValues::sec_offset_is, crate::proofs::FieldValues::strx_is, crate::proofs::FieldValues::strx_1_is, crate::proofs::FieldValues::strx_2_is, crate::proofs::FieldValues::strx_3_is, crate::proofs::FieldValues::strx_4_is, crate::proofs::FieldValues::udata_is, crate::proofs::FieldValues::data_16_is, crate::proofs::FieldValues::data_1_is, crate::proofs::FieldValues::flag_is, crate::proofs::FieldValues::data_2_is, crate::proofs::FieldValues::data_4_is, crate::proofs::FieldValues::data_8_is, crate::proofs::FieldValues::sdata_is, crate::proofs::FieldValues::string_is, crate::proofs::FieldValues::block_is, crate::proofs::FieldValues::block_1_is, crate::proofs::FieldValues::block_2_is, crate::proofs::FieldValues::block_4_is), unfolding(gimli_units_forms::specs::AttributeReading::bytes_by_length))]
+#[tactic(auto, using(crate::proofs::FieldValues::entry_forms))]
 fn check_other_value<O: ReaderOffset, I: Reader>(
     input: &mut I,
     encoding: Encoding,

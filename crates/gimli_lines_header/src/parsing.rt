@@ -20,7 +20,7 @@ use gimli_units_headers::{
 use std::alloc::Global;
 
 // The version, and the sizes of fields.
-#[tactic(auto, unfolding(crate::specs::HeaderParsing::line_sizes, crate::specs::HeaderParsing::encoding_of_5))]
+#[tactic(auto, unfolding(crate::proofs::Unfoldings::all_of_sizes))]
 pub(crate) fn parse_sizes<R: Reader>(
     input: &mut R,
     format: Format,
@@ -56,7 +56,7 @@ pub(crate) fn parse_sizes<R: Reader>(
 }
 
 // The operations of an instruction: a field from version 4 on.
-#[tactic(auto, unfolding(crate::specs::HeaderParsing::operations, crate::specs::HeaderParsing::operations_of_4))]
+#[tactic(auto, unfolding(crate::proofs::Unfoldings::all_of_operations))]
 fn parse_operations<R: Reader>(input: &mut R, version: u16) -> Result<u8, Error>
     ensures value { ReturnsAs (λ n. (n, R.view input.new)) result
         (operations version (R.view input.old)) }
@@ -191,7 +191,7 @@ impl<R: Reader> LineProgramHeader<R> {
     /// The header that the input begins with, at an offset of `.debug_line`. The unit gives the
     /// bytes of an address, which count up to version 4, its directory and its name. A refusal may
     /// have moved the input.
-    #[tactic(auto, unfolding(crate::specs::HeaderParsing::line_header, crate::specs::HeaderParsing::header_in))]
+    #[tactic(auto, unfolding(crate::proofs::Unfoldings::all_of_header))]
     pub fn parse(
         alloc: Global,
         input: &mut R,

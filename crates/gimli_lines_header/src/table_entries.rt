@@ -63,7 +63,7 @@ impl<R: Reader> EntryFields<R> {
     }
 
     // Reads a further field, and takes what it says.
-    #[tactic(auto, using(crate::proofs::CheckSteps::checked_same, crate::proofs::CheckSteps::refused_same))]
+    #[tactic(auto, using(crate::proofs::CheckSteps::same_answers))]
     #[inline(always)]
     fn read(
         &mut self,

@@ -80,13 +80,18 @@ fn parse_file_texts<R: Reader>(alloc: Global, input: &mut R) -> Result<Vec<FileE
 
 // ---- in version 5
 
-// How many entries to take memory for at once: all of them, or as many as the bytes left can hold.
+// The most entries that memory is taken for before they are read.
+const MOST_AT_ONCE: u64 = 1024;
+
+// How many entries to take memory for at once: all of them, or as many as the bytes left can hold,
+// or the most, so that a number which isn't true takes little.
 fn room<R: Reader>(input: &R, usual: Option<UsualFields>, count: u64) -> usize
     ensures within { result ≤ bytes_left (R.view input.now) }
     ensures counted { result ≤ count }
+    ensures limited { result ≤ MOST_AT_ONCE }
 {
     let most = most_entries(input.as_bytes().len() as u64, usual);
-    count.min(most) as usize
+    count.min(most).min(MOST_AT_ONCE) as usize
 }
 
 // `count` directories.

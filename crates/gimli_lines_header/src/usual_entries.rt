@@ -1,6 +1,6 @@
 //! Entries with the fields that most tables have, in their usual order: each is read at once, from
-//! borrowed bytes. All contents and forms are in `table_entries` and `field_values`: these are to be
-//! read first. Here the same is spelled again for speed; what isn't spelled here, and what is
+//! borrowed bytes. All contents and forms are in `table_entries` and `field_values`: read those
+//! first. Here the same is spelled again for speed; what isn't spelled here, and what is
 //! refused, is left to them.
 
 ghost use Rattle.std.specs.Prelude.{◌≡◌, ◌≤◌, IfSome, Ok, Some};
@@ -55,8 +55,8 @@ pub(crate) fn usual_fields(formats: &[FileEntryFormat]) -> Option<UsualFields>
     }
 }
 
-// How many entries a number of bytes can hold, where the fields are usual: a path takes a byte at least,
-// as a number does.
+// How many entries a number of bytes can hold, where the fields are usual: a path takes a byte at
+// least, as a number does.
 pub(crate) fn most_entries(bytes: u64, usual: Option<UsualFields>) -> u64
     ensures { result ≤ bytes }
 {
@@ -85,7 +85,7 @@ fn read_text<R: Reader>(place: &mut EndianSlice<'_, R::Endian>, input: &R) -> Op
 }
 
 // The path that an entry begins with.
-#[tactic(auto, using(crate::proofs::FieldValues::line_strp_is, crate::proofs::FieldValues::strp_is, crate::proofs::FieldValues::string_is))]
+#[tactic(auto, using(crate::proofs::FieldValues::path_forms))]
 #[inline(always)]
 fn read_path<R: Reader>(
     place: &mut EndianSlice<'_, R::Endian>,
@@ -119,7 +119,7 @@ fn read_path<R: Reader>(
 }
 
 // The number of a directory.
-#[tactic(auto, using(crate::proofs::FieldValues::udata_is, crate::proofs::FieldValues::data_1_is, crate::proofs::FieldValues::data_2_is))]
+#[tactic(auto, using(crate::proofs::FieldValues::directory_forms))]
 #[inline(always)]
 fn read_directory<O: ReaderOffset, E: Endianity>(
     place: &mut EndianSlice<'_, E>,

@@ -88,8 +88,8 @@ abbrev pub after_bytes : LineRules → ℕ → Registers → Result Registers Er
 after_bytes rules n r = if r.is_hidden then Ok r
     else registers_at r 0 (address_within rules.encoding.address_size (r.address + n))
 
--- An address below the one before it, or one that stands for no address, hides what follows it in
--- its sequence, up to the next one that does not.
+-- An address below the one before it, or a tombstone, hides what follows it in its sequence, up to
+-- the next one that is neither.
 abbrev pub hides : LineRules → Registers → ℕ → Bool
 hides rules r address = nat_lt address r.address || is_tombstone rules.encoding.address_size address
 
@@ -101,11 +101,11 @@ at_new_address rules address r =
 
 -- ---- special opcodes (6.2.5.1)
 
--- how many operations an opcode stands for, and how many lines
+-- by how many operations an opcode advances
 abbrev pub operation_advance : LineRules → ℕ → ℕ
 operation_advance rules opcode = (opcode - rules.opcode_base) / rules.line_encoding.line_range
 
--- the lines that an opcode stands for
+-- by how many lines
 abbrev pub line_advance : LineRules → ℕ → ℤ
 line_advance rules opcode = rules.line_encoding.line_base
     +ℤ pos ((opcode - rules.opcode_base) % rules.line_encoding.line_range)

@@ -26,7 +26,7 @@ pub struct Registers {
     pub epilogue_begin: bool,
     pub isa: u64,
     pub discriminator: u64,
-    /// Rows aren't shown: the last address that was set stands for none.
+    /// Rows aren't shown: the last address that was set went back or is a tombstone.
     pub is_hidden: bool,
 }
 
@@ -114,8 +114,8 @@ impl Registers {
         Ok(())
     }
 
-    /// Sets the address, or hides the rows up to the next one: those of an address that goes back
-    /// or stands for none.
+    /// Sets the address. Where it goes back or is a tombstone, it hides the rows up to the next
+    /// one instead.
     pub fn set_address(&mut self, rules: LineRules, address: u64)
         requires { IsSound rules }
         ensures { self.new ≡ at_new_address rules address self.old }
@@ -168,7 +168,7 @@ fn line_after(line: u64, lines: i64) -> u64
     }
 }
 
-// How many lines a special opcode stands for.
+// By how many lines a special opcode advances.
 fn lines_of(rules: LineRules, opcode: u8) -> i64
     requires { IsSound rules }
     ensures { result ≡ line_advance rules opcode }

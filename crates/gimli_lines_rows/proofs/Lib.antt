@@ -1,6 +1,7 @@
 pub use Rattle.gimli_lines_machine.proofs.RefusedCalls
 pub use Rattle.gimli_lines_machine.proofs.StepParts
 mod Operands
+mod Unfoldings
 mod NumericSteps
 pub mod LineRowSteps
 pub mod RowPaths

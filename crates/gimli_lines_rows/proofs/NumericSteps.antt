@@ -33,6 +33,8 @@ took_length limit rules counts v w i e =
     let same : k.count ≡ bytes_left v - bytes_left w = omega arith in
     e ∙ ap (instruction_result i) (k.rest ∙ ap (λ (n : ℕ). after n v) same)
 
+pub ruleset bytes_taken = (took_fits, took_length)
+
 -- an instruction whose operands are numbers defines no file
 pub numeric_file : (i : NumericInstruction) → file_definition (numeric_instruction i) ≡ None
 numeric_file (Special opcode) = refl

@@ -41,7 +41,8 @@ rules_after takes_files _ h = (refl, refl)
 -- a call that executes an instruction leaves a program's rules as they are
 pub rules_stay : (r : Result Bool Error) (takes_files : Bool) (i : InstructionOf FileFacts) (old new : LineHeader)
     (rules : LineRules) → HeaderAfter r takes_files i old new → rules ≡ rules_of old → rules ≡ rules_of new
-rules_stay (Ok b) takes_files i old new rules led is = is ∙ sym (rules_after takes_files i old).0 ∙ ap rules_of (sym led)
+rules_stay (Ok b) takes_files i old new rules led is =
+    is ∙ sym (rules_after takes_files i old).0 ∙ ap rules_of (sym led)
 rules_stay (Err e) takes_files i old new rules same is = is ∙ ap rules_of (sym same)
 
 header_same : (i : InstructionOf FileFacts) (h : LineHeader) → header_after false i h ≡ h

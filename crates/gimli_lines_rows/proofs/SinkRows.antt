@@ -254,7 +254,8 @@ given_to_fault limit form H (Err e) old mid new before after d is p one = (
 )
 
 -- the sink refused a row of a run
-pub given_to_refusal : {A : Type 0} (B : Type 0) {S K : Type 0} (limit : ℕ) (form : Registers → K) (H : S → List K → Type 0)
+pub given_to_refusal : {A : Type 0} (B : Type 0) {S K : Type 0} (limit : ℕ) (form : Registers → K)
+    (H : S → List K → Type 0)
     (r : Result A Error) (old mid new : RemainingRows) (before middle after : S) (d : Error) → IsErrAnd r (λ e. e ≡ d)
     → GivenSoFar limit form H old mid before middle → GivesOnTheWay {A = B} limit form H (Err d) mid new middle after
     → GivesRows limit form H r old new before after
@@ -283,7 +284,8 @@ given_to_sink limit form H (Err x) old mid new before middle after d is none p e
 
 -- ---- the same where nothing but the sink takes memory
 
-pub refused_by_run : {A : Type 0} (B : Type 0) {S K : Type 0} (limit : ℕ) (form : Registers → K) (H : S → List K → Type 0)
+pub refused_by_run : {A : Type 0} (B : Type 0) {S K : Type 0} (limit : ℕ) (form : Registers → K)
+    (H : S → List K → Type 0)
     (r : Result A Error) (old mid new : RemainingRows) (before middle after : S) (d : Error) → IsErrAnd r (λ e. e ≡ d)
     → GivenSoFar limit form H old mid before middle → GivesOnTheWay {A = B} limit form H (Err d) mid new middle after
     → IfErr r (λ e. RefusedByRows limit e old new)

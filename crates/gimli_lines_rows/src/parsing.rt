@@ -29,7 +29,7 @@ use gimli_lines_machine::{
 
 // The instruction at the start of borrowed bytes and its length, where it can be read and its
 // operands are numbers; its lengths are offsets as the reader `R` has them.
-#[tactic(auto, using(crate::proofs::NumericSteps::took_fits, crate::proofs::NumericSteps::took_length))]
+#[tactic(auto, using(crate::proofs::NumericSteps::bytes_taken))]
 pub(crate) fn measure_numeric<R: Reader>(
     mut bytes: EndianSlice<'_, R::Endian>,
     header: &LineProgramHeader<R>,
@@ -70,7 +70,7 @@ fn parse_numeric<R: Reader>(
 }
 
 // The same, after an opcode 0: an extended opcode and its operands, after their length.
-#[tactic(auto, unfolding(gimli_lines_machine::specs::Decoding::extended_instruction, gimli_lines_machine::specs::Decoding::extended_in))]
+#[tactic(auto, unfolding(crate::proofs::Unfoldings::all_of_extended))]
 pub(crate) fn parse_numeric_extended<R: Reader>(
     input: &mut EndianSlice<'_, R::Endian>,
     rules: LineRules,
@@ -244,7 +244,7 @@ fn parse_extended<R: Reader>(
 }
 
 // An extended opcode and its operands, which need not take all of their bytes.
-#[tactic(auto, unfolding(gimli_lines_machine::specs::Decoding::extended_in, gimli_lines_machine::specs::Decoding::defined_file, gimli_lines_header::specs::HeaderTables::file_after_path))]
+#[tactic(auto, unfolding(crate::proofs::Unfoldings::all_of_operands))]
 fn parse_extended_in<R: Reader>(
     mut bytes: R,
     header: &LineProgramHeader<R>,

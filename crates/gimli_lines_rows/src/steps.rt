@@ -133,7 +133,7 @@ fn skip_unknown<R: Reader>(
 }
 
 // The same of an extended opcode, after an opcode 0; none where its operands aren't a number.
-#[tactic(auto, unfolding(gimli_lines_machine::specs::Decoding::extended_instruction, gimli_lines_machine::specs::Decoding::extended_in))]
+#[tactic(auto, unfolding(crate::proofs::Unfoldings::all_of_extended))]
 #[inline(always)]
 fn run_extended<R: Reader>(
     input: &mut EndianSlice<'_, R::Endian>,

@@ -39,6 +39,7 @@ pub use Rattle.gimli_core_readers.specs.ErrorText
 pub use Rattle.gimli_units_headers.specs.NumberParsers
 pub use Rattle.gimli_units_forms.specs.AbbreviationViews
 pub use Rattle.gimli_units_forms.specs.Declarations
+pub use Rattle.gimli_units_forms.specs.FormWidths
 pub use Rattle.gimli_units_forms.specs.SkippingLaws
 pub use Rattle.gimli_units_forms.specs.TableParsing
 pub use Rattle.gimli_units_entries.specs.Repetition

@@ -59,7 +59,8 @@ attribute-name limit e s v w a h =
 
 -- a list without the one that was added
 without_last : {X : Type 0} (view : X → RawAttribute) (before now less : List X) (a : RawAttribute) (n : ℕ)
-    → map view before ++ a ∷ [] ≡ map view now → n ≡ length now → less ≡ take (n - 1) now → map view before ≡ map view less
+    → map view before ++ a ∷ [] ≡ map view now → n ≡ length now → less ≡ take (n - 1) now
+    → map view before ≡ map view less
 without_last view before now less a n made count is =
     let longer : length (map view now) ≡ length (map view before) + 1 =
     ap length (sym made) ∙ length-append (map view before) (a ∷ []) in
@@ -82,7 +83,8 @@ module _ (limit : ℕ) (names : List DwAt) (e : Encoding) where
 
   abbrev all_read : List Attribute → Result (RawAttribute × View) Error → Attributes
   all_read ss r =
-      proceed (proceed r (λ y u. proceed (attributes limit e ss u) (λ ys. give (y ∷ ys)))) (λ all. give (of_names names all))
+      proceed (proceed r (λ y u. proceed (attributes limit e ss u) (λ ys. give (y ∷ ys))))
+      (λ all. give (of_names names all))
 
   -- an attribute that is read comes before the others
   named-first : (s : Attribute) (ss : List Attribute) (v w : View) (a : RawAttribute)
@@ -121,27 +123,30 @@ module _ (limit : ℕ) (names : List DwAt) (e : Encoding) where
       ap (λ (b : Bool). of_name_test b a)
       (ap (is_name_of names) (sym (attribute-name limit e s v w a h)) ∙ is)
 
+  -- those before, and one that is read if it is of one of the names
+  abbrev with_named : List RawAttribute → Result (RawAttribute × View) Error → Attributes
+  with_named before r = proceed r (λ a. give (before ++ of_names names (a ∷ [])))
+
   -- one of the names is added
   pub push-named : (s : Attribute) (before now : List RawAttribute) (v w : View) → is_name_of names s.name ≡ true
       → map_value (λ a. before ++ a ∷ []) (attribute limit e s) v ≡ Ok (now, w)
       → map_value (λ a. before ++ of_names names (a ∷ [])) (attribute limit e s) v ≡ Ok (now, w)
   push-named s before now v w is h =
       let b = begins (attribute limit e s v) (λ a. give (before ++ a ∷ [])) now w h in
-      ap (λ (r : Result (RawAttribute × View) Error). proceed r (λ a. give (before ++ of_names names (a ∷ [])))) b.2
+      ap (with_named before) b.2
       ∙ ap (λ (one : List RawAttribute). read (before ++ one) b.1) (kept_by_name s v b.1 b.0 true b.2 is)
       ∙ b.3
 
   -- another is dropped again
-  pub push-other : {X : Type 0} (view : X → RawAttribute) (s : Attribute) (before now less : List X) (n : ℕ) (v w : View)
-      → is_name_of names s.name ≡ false
+  pub push-other : {X : Type 0} (view : X → RawAttribute) (s : Attribute) (before now less : List X) (n : ℕ)
+      (v w : View) → is_name_of names s.name ≡ false
       → map_value (λ a. map view before ++ a ∷ []) (attribute limit e s) v ≡ Ok (map view now, w)
       → n ≡ length now → less ≡ take (n - 1) now
       → map_value (λ a. map view before ++ of_names names (a ∷ [])) (attribute limit e s) v ≡ Ok (map view less, w)
   push-other view s before now less n v w other h count is =
       let b = begins (attribute limit e s v) (λ a. give (map view before ++ a ∷ [])) (map view now) w h in
       let made = value_is (map view before ++ b.0 ∷ []) (map view now) b.1 w b.3 in
-      ap (λ (r : Result (RawAttribute × View) Error). proceed r (λ a. give (map view before ++ of_names names (a ∷ []))))
-      b.2
+      ap (with_named (map view before)) b.2
       ∙ ap (λ (one : List RawAttribute). read (map view before ++ one) b.1) (kept_by_name s v b.1 b.0 false b.2 other)
       ∙ ap (λ (all : List RawAttribute). read all b.1)
       (append-nil (map view before) ∙ without_last view before now less b.0 n made count is)
@@ -150,7 +155,8 @@ module _ (limit : ℕ) (names : List DwAt) (e : Encoding) where
   -- one of another name that is sure widens the run
   named-sure : (s : Attribute) (ss : List Attribute) (run width : ℕ) (v : View) → IsSure width e s
       → is_name_of names s.name ≡ false → 2 ^ 32 ≤ limit → All IsByte v.bytes → run + width ≤ bytes_left v
-      → named_attributes limit names e (s ∷ ss) (after run v) ≡ named_attributes limit names e ss (after (run + width) v)
+      → named_attributes limit names e (s ∷ ss) (after run v)
+      ≡ named_attributes limit names e ss (after (run + width) v)
   named-sure s ss run width v sure other wide bytes there =
       let left = length-drop run v.bytes in
       let r = sure.at limit (after run v) wide (All-drop IsByte run v.bytes bytes) (omega (arith, left, there)) in

@@ -27,6 +27,14 @@ no_walk = None
 abbrev pub some_walk : Walk → Option Walk
 some_walk w = Some w
 
+-- the walk after the attributes of a declaration, unless its entry is chosen
+abbrev after_choice : Declaration → Walk → Bool → Option Walk
+after_choice d w is_chosen = cond is_chosen no_walk (after_attributes (skip_values d.attributes w))
+
+-- the same walk, by what skipping them leaves
+abbrev after_skipped : Walk → Result (Unit {0} × View) Error → Option Walk
+after_skipped w skipped = after_attributes (read_in_walk w skipped)
+
 -- the head of an entry is read
 after_other-head : (choice : ℕ → Bool) (w : Walk) (d : Option Declaration) (v : View) → HasHead w d v
     → after_other choice w ≡ after_unless choice d (walk_after_code w d v)
@@ -79,7 +87,7 @@ pub chosen_stays : (choice : ℕ → Bool) (w : Walk) (code : ℕ) (d : Declarat
     → choice d.tag ≡ true → after_other choice w ≡ None
 chosen_stays choice w code d v h nonzero is chosen =
     after_other-head choice w (Some d) v (head_of w code d v h nonzero is)
-    ∙ ap (λ (b : Bool). cond b no_walk (after_attributes (skip_values d.attributes (walk_after_code w (Some d) v)))) chosen
+    ∙ ap (after_choice d (walk_after_code w (Some d) v)) chosen
 
 -- its attributes can't be skipped
 pub refused_stays : (choice : ℕ → Bool) (w : Walk) (code : ℕ) (d : Declaration) (v : View) (e : Error)
@@ -88,9 +96,8 @@ pub refused_stays : (choice : ℕ → Bool) (w : Walk) (code : ℕ) (d : Declara
 unfolding skip_values
 refused_stays choice w code d v e h nonzero is other refused =
     after_other-head choice w (Some d) v (head_of w code d v h nonzero is)
-    ∙ ap (λ (b : Bool). cond b no_walk (after_attributes (skip_values d.attributes (walk_after_code w (Some d) v)))) other
-    ∙ ap (λ (r : Result (Unit {0} × View) Error). after_attributes (read_in_walk (walk_after_code w (Some d) v) r))
-    refused
+    ∙ ap (after_choice d (walk_after_code w (Some d) v)) other
+    ∙ ap (after_skipped (walk_after_code w (Some d) v)) refused
 
 -- they are skipped
 pub other_is_skipped : (choice : ℕ → Bool) (w : Walk) (code : ℕ) (d : Declaration) (v u : View)
@@ -100,8 +107,8 @@ pub other_is_skipped : (choice : ℕ → Bool) (w : Walk) (code : ℕ) (d : Decl
 unfolding skip_values
 other_is_skipped choice w code d v u h nonzero is other skips =
     after_other-head choice w (Some d) v (head_of w code d v h nonzero is)
-    ∙ ap (λ (b : Bool). cond b no_walk (after_attributes (skip_values d.attributes (walk_after_code w (Some d) v)))) other
-    ∙ ap (λ (r : Result (Unit {0} × View) Error). after_attributes (read_in_walk (walk_after_code w (Some d) v) r)) skips
+    ∙ ap (after_choice d (walk_after_code w (Some d) v)) other
+    ∙ ap (after_skipped (walk_after_code w (Some d) v)) skips
 
 -- ---- what an entry takes that is skipped
 

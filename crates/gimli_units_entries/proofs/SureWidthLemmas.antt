@@ -140,7 +140,8 @@ narrow_value width limit e name form n spells below = by_test (is_offset_data e 
         → (x : RawValue) × (cond t (offset section_offset limit n) (meaning_in meanings form limit n) ≡ Ok x)
     by_test true = (section_offset n, offset_fits section_offset limit n below)
     by_test false =
-        ok_value (meaning_in meanings form limit n) (has_meaning width e form limit n (sym spells) (lt-ltb n limit below))
+        ok_value (meaning_in meanings form limit n)
+        (has_meaning width e form limit n (sym spells) (lt-ltb n limit below))
 
 pub narrow_is_sure : (width : ℕ) (e : Encoding) (s : Attribute) → Fixed width ≡ spelling e s.form → width ≤ 4
     → IsSure width e s

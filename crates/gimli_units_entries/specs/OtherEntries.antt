@@ -51,7 +51,8 @@ further skip w (Some t) = skip t
 unfoldable pub skip_within : ℕ → (ℕ → Bool) → ℤ → Walk → Walk
 skip_within zero choice bound w = w
 skip_within (suc n) choice bound w =
-    if int_lt bound w.depth then further (skip_within n choice bound) w (after_other choice w) else w
+    if int_lt bound w.depth then further (skip_within n choice bound) w (after_other choice w)
+    else w
 
 -- All of them, up to a chosen one, one that can't be read or skipped, or the unit's end: each takes
 -- a byte at least.

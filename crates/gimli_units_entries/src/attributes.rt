@@ -15,8 +15,8 @@ use gimli_units_forms::{
 };
 use gimli_units_headers::Reader;
 
-// Reads the attributes that declarations describe, at a place in a reader, in place of those of a
-// list. A refusal leaves those that were read so far.
+// Reads the attributes that declarations describe, at a place in a reader, into a list, in place of
+// its contents. A refusal leaves those that were read so far.
 fn fill<R: Reader>(
     attrs: &mut Vec<Attribute<R>>,
     place: &mut EndianSlice<'_, R::Endian>,
@@ -36,9 +36,9 @@ fn fill<R: Reader>(
     Ok(())
 }
 
-// Reads the attributes that declarations describe, after some bytes of a reader, in place of those
-// of a list, whose memory they take; returns how many bytes come before what is left. A refusal
-// leaves an empty list.
+// Reads the attributes that declarations describe, after some bytes of a reader, into a list, in
+// place of its contents, reusing its memory. Returns how many bytes come before what is left. A
+// refusal leaves the list empty.
 pub(crate) fn read_each<R: Reader>(
     attrs: &mut Vec<Attribute<R>>,
     reader: &R,

@@ -13,7 +13,7 @@ use gimli_units_forms::{Attribute, AttributeValue};
 use gimli_units_headers::{Reader, UnitOffset};
 use std::alloc::Global;
 
-/// An entry: its place, and what it says (DWARF 5, 2.1). A null entry has the tag 0.
+/// An entry: its place, its tag and its attributes (DWARF 5, 2.1). A null entry has the tag 0.
 pub struct DebuggingInformationEntry<R: Reader> {
     pub(crate) offset: UnitOffset<R::Offset>,
     pub(crate) depth: isize,
@@ -134,8 +134,8 @@ impl<R: Reader> DebuggingInformationEntry<R> {
         }
     }
 
-    /// What the name makes of the value of the first attribute of that name; where it doesn't fit,
-    /// a copy of the value as its form gives it.
+    /// The value of the first attribute of a name, interpreted under that name; where it doesn't
+    /// fit the name, a copy of the value as its form gives it.
     pub fn attr_value(&self, name: DwAt) -> Result<Option<AttributeValue<R>>, Error>
         ensures value { ReturnsAsOrNoMemory (option_map (raw_value_of R.view R.Offset.count)) result
             (Ok

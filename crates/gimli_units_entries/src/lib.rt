@@ -20,8 +20,8 @@ pub use gimli_core_base::{
     DW_AT_stmt_list, DW_AT_str_offsets_base, DW_TAG_inlined_subroutine, DW_TAG_partial_unit,
     DW_TAG_subprogram, DebugAbbrevOffset, DebugAddrBase, DebugAddrIndex, DebugLineOffset,
     DebugLocListsBase, DebugRngListsBase, DebugRngListsIndex, DebugStrOffset, DebugStrOffsetsBase,
-    DwAt, DwLang, DwTag, DwarfFileType, DwoId, RangeListsOffset, RawRangeListsOffset, ReaderOffset,
-    SectionId,
+    DwAt, DwLang, DwTag, DwarfFileType, DwoId, Encoding, RangeListsOffset, RawRangeListsOffset,
+    ReaderOffset, SectionId,
 };
 pub use gimli_units_forms::attribute::bytes_are_small_numbers;
 pub use gimli_units_forms::skipping::{skipping_follows_reading, skips_by_runs};

@@ -21,7 +21,7 @@ use gimli_units_forms::{
 };
 use gimli_units_headers::Reader;
 
-// Whether a name is one of these.
+// Whether a name is among these.
 #[inline(always)]
 fn is_one_of(names: &[DwAt], name: DwAt) -> bool
     ensures { result ≡ is_name_of names.now name.0 }
@@ -29,7 +29,7 @@ fn is_one_of(names: &[DwAt], name: DwAt) -> bool
     names.iter().any(|other| other.0 == name.0)
 }
 
-// Whether eight bytes under the name are any number, and no offset.
+// Whether an attribute is a number of eight bytes that isn't an offset.
 #[inline(always)]
 fn is_long_number(specification: &AttributeSpecification) -> bool
     ensures { result ≡ is_long_number (attribute_view specification.now) }
@@ -40,8 +40,8 @@ fn is_long_number(specification: &AttributeSpecification) -> bool
     !is_of_offset && (form == DW_FORM_data8 || form == DW_FORM_ref_sig8)
 }
 
-// The width of an attribute that is read wherever its bytes are there. Offsets of all types hold
-// the numbers of four bytes.
+// The width of an attribute that is read wherever its bytes are there. Each type of offset holds
+// all numbers of four bytes.
 #[inline(always)]
 fn sure_width(encoding: Encoding, specification: &AttributeSpecification) -> Option<u8>
     ensures { IfSome result (λ width. IsSure width encoding (attribute_view specification.now)) }
@@ -55,7 +55,7 @@ fn sure_width(encoding: Encoding, specification: &AttributeSpecification) -> Opt
     }
 }
 
-// The same, if the attribute isn't of one of these names.
+// The same, if the attribute has none of these names.
 #[inline(always)]
 fn sure_width_of_other(
     encoding: Encoding,
@@ -74,14 +74,14 @@ fn sure_width_of_other(
     }
 }
 
-// The bytes of a slice are numbers of eight bits.
+// The bytes of a slice are numbers below 256.
 #[inline(always)]
 fn are_bytes(bytes: &[u8])
     ensures { (k : ℕ) → slice_index bytes.now k < 2 ^ 8 }
 {}
 
-// The run of the first attributes of other names, up to one that must be read: how many bytes it
-// takes, and the declarations from that one on.
+// How many bytes the first attributes with other names take, up to one that must be read, and the
+// declarations from that one on.
 #[inline(always)]
 fn run_of_others<'s, E: Endianity>(
     place: &EndianSlice<'_, E>,
@@ -115,7 +115,7 @@ fn run_of_others<'s, E: Endianity>(
     (run, left)
 }
 
-// Skips such a run, and returns the declarations from the attribute on that must be read.
+// Skips these attributes, and returns the declarations from the one on that must be read.
 #[inline(always)]
 fn skip_others<'s, E: Endianity>(
     place: &mut EndianSlice<'_, E>,
@@ -135,7 +135,7 @@ fn skip_others<'s, E: Endianity>(
     left
 }
 
-// Reads an attribute, and adds it to the end of a list if it is of one of these names.
+// Reads an attribute, and appends it to a list if it has one of these names.
 #[inline(always)]
 fn push_named<R: Reader>(
     attrs: &mut Vec<Attribute<R>>,
@@ -159,8 +159,8 @@ fn push_named<R: Reader>(
     Ok(())
 }
 
-// Reads the attributes that declarations describe, at a place in a reader, and puts those of these
-// names in place of those of a list. A refusal leaves those that were read so far.
+// Reads the attributes that declarations describe, at a place in a reader, and puts those with
+// these names into a list, in place of its contents. A refusal leaves those that were read so far.
 fn fill_named<R: Reader>(
     attrs: &mut Vec<Attribute<R>>,
     place: &mut EndianSlice<'_, R::Endian>,
@@ -184,9 +184,9 @@ fn fill_named<R: Reader>(
     Ok(())
 }
 
-// Reads the attributes that declarations describe, and puts those of these names in place of those
-// of a list, whose memory they take; returns how many bytes come before what is left. A refusal
-// leaves an empty list.
+// Reads the attributes that declarations describe, and puts those with these names into a list, in
+// place of its contents, reusing its memory. Returns how many bytes come before what is left. A
+// refusal leaves the list empty.
 pub(crate) fn read_named<R: Reader>(
     attrs: &mut Vec<Attribute<R>>,
     reader: &R,

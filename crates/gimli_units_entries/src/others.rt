@@ -1,4 +1,4 @@
-//! Entries that are skipped up to one that a caller looks for.
+//! Skipping entries up to one that a caller looks for.
 
 ghost use Rattle.std.specs.Prelude.{◌≡◌, ℕ, ◌≤◌, ◌^◌, pos, ◌+ℤ◌, ◌≤ℤ◌, ◌<ℤ◌, None, Some, option_map};
 ghost use Rattle.gimli_core_base.specs.View.{after, bytes_left};
@@ -10,7 +10,7 @@ use gimli_core_base::{DwTag, Encoding};
 use gimli_units_forms::{Abbreviation, Abbreviations, borrowed, bytes_before, skip_declared};
 use gimli_units_headers::Reader;
 
-// Whether a tag is one of these.
+// Whether a tag is among these.
 #[inline(always)]
 fn is_one_of(tags: &[DwTag], tag: DwTag) -> bool
     ensures { result ≡ is_tag_of tags.now tag.0 }
@@ -34,7 +34,7 @@ fn depth_after_null(depth: isize) -> isize
     depth - 1
 }
 
-// The depth after an entry of a declaration.
+// The depth after an entry with this declaration.
 #[inline(always)]
 fn depth_after(depth: isize, abbreviation: &Abbreviation<'_>) -> isize
     requires { (depth +ℤ pos 1) <ℤ pos (2 ^ 63) }
@@ -47,8 +47,8 @@ fn depth_after(depth: isize, abbreviation: &Abbreviation<'_>) -> isize
     }
 }
 
-// Skips an entry whose tag isn't one of these, and returns the depth after it. None where it is one
-// of them, or can't be read or skipped, and the place may have moved.
+// Skips an entry whose tag isn't one of these, and returns the depth after it. None where the tag
+// is one of them, or the entry can't be read or skipped; the place may have moved then.
 #[inline(always)]
 fn skip_other<R: Reader>(
     place: &mut R,
@@ -81,7 +81,8 @@ fn skip_other<R: Reader>(
     Some(depth_after(depth, &abbreviation))
 }
 
-// How many bytes the entries take that are skipped from a depth on, and the depth after them.
+// How many bytes of entries are skipped, where the first one is at a depth, and the depth after
+// them.
 pub(crate) fn others_after<R: Reader>(
     input: &R,
     encoding: Encoding,

@@ -80,9 +80,9 @@ impl<'abbrev, R: Reader> EntriesRaw<'abbrev, R> {
         self.depth
     }
 
-    /// The next entry's code, as the declaration that it stands for; none for a null entry, which
-    /// ends the children of an entry (DWARF 5, 7.5.2). Takes no memory. A refusal leaves the walk
-    /// as it was.
+    /// Reads the next entry's code, and returns its declaration; none for a null entry, which ends
+    /// the children of an entry (DWARF 5, 7.5.2). Takes no memory. A refusal leaves the walk as it
+    /// was.
     #[inline(always)]
     #[tactic(auto, unfolding(crate::specs::EntryWalks::entry_head))]
     pub fn read_abbreviation(&mut self) -> Result<Option<Abbreviation<'abbrev>>, Error>
@@ -93,8 +93,8 @@ impl<'abbrev, R: Reader> EntriesRaw<'abbrev, R> {
         Ok(abbreviation)
     }
 
-    /// The next attribute, as its declaration describes it. A refusal leaves the walk as it was.
-    /// Compiled into its caller: to move the attribute there would take longer than to read it.
+    /// Reads the next attribute, as its declaration describes it. A refusal leaves the walk as it
+    /// was. Inlined: moving the attribute to the caller would take longer than reading it.
     #[inline(always)]
     #[tactic(auto, unfolding(crate::specs::EntryWalks::value))]
     pub fn read_attribute(
@@ -143,8 +143,8 @@ impl<'abbrev, R: Reader> EntriesRaw<'abbrev, R> {
         skip_attributes(&mut self.input, self.encoding, specifications)
     }
 
-    /// Skips the attributes of an entry of a declaration, which has been read, by their widths
-    /// alone. Takes no memory. A refusal leaves the walk as it was.
+    /// Skips the attributes of an entry whose declaration has been read, by their widths alone.
+    /// Takes no memory. A refusal leaves the walk as it was.
     #[inline(always)]
     #[tactic(auto, unfolding(crate::specs::EntryWalks::skip_values))]
     pub fn skip_entry(&mut self, abbreviation: &Abbreviation<'_>) -> Result<(), Error>
@@ -155,8 +155,8 @@ impl<'abbrev, R: Reader> EntriesRaw<'abbrev, R> {
     }
 
     /// Skips entries, with their attributes by their widths alone, as long as the depth of the next
-    /// one is above a bound: up to one of these tags, one that can't be read or skipped, or the
-    /// unit's end. Null entries are skipped too. Takes no memory.
+    /// one is above a bound. Stops before an entry with one of these tags, before one that can't be
+    /// read or skipped, and at the unit's end. Null entries are skipped too. Takes no memory.
     pub fn skip_others(&mut self, tags: &[DwTag], bound: isize)
         ensures { self.new ≡ skip_others (is_tag_of tags.now) bound self.old }
     {
@@ -172,8 +172,8 @@ impl<'abbrev, R: Reader> EntriesRaw<'abbrev, R> {
         self.depth = depth;
     }
 
-    /// Reads the attributes that declarations describe in place of those of a list, whose memory
-    /// they take. A refusal leaves the walk as it was, and the list empty.
+    /// Reads the attributes that declarations describe into a list, in place of its contents, and
+    /// reuses its memory. A refusal leaves the walk as it was, and the list empty.
     #[tactic(auto, unfolding(crate::specs::EntryWalks::values))]
     pub fn read_attributes(
         &mut self,
@@ -190,10 +190,10 @@ impl<'abbrev, R: Reader> EntriesRaw<'abbrev, R> {
         Ok(())
     }
 
-    /// Reads the attributes that declarations describe, and puts those of some names in place of
-    /// those of a list, whose memory they take. Of the others, those that reading refuses only
-    /// where their bytes are missing are skipped by their widths. A refusal leaves the walk as it
-    /// was, and the list empty. Each attribute's name is compared with all of these.
+    /// Reads the attributes that declarations describe, and puts those with these names into a
+    /// list, in place of its contents, reusing its memory. Of the others, those that reading
+    /// refuses only where their bytes are missing are skipped by their widths. A refusal leaves the
+    /// walk as it was, and the list empty. Compares the name of each attribute with all of these.
     #[tactic(auto, unfolding(crate::specs::EntryWalks::values))]
     pub fn read_named_attributes(
         &mut self,
@@ -211,9 +211,9 @@ impl<'abbrev, R: Reader> EntriesRaw<'abbrev, R> {
         Ok(())
     }
 
-    /// Reads the next entry with its attributes in place of another, whose memory they take, and
-    /// returns whether it isn't a null entry. A refusal leaves the walk as it was, and the entry
-    /// null at the walk's place.
+    /// Reads the next entry with its attributes into this one, whose memory is reused, and returns
+    /// whether it isn't a null entry. A refusal leaves the walk as it was, and makes this the null
+    /// entry at the walk's place.
     #[tactic(auto, unfolding(crate::specs::EntryRows::row, crate::specs::EntryWalks::values))]
     pub fn read_entry(&mut self, entry: &mut DebuggingInformationEntry<R>) -> Result<bool, Error>
         ensures value { StepsAsOrNoMemory

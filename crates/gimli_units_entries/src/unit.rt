@@ -31,7 +31,7 @@ pub trait UnitEntries<R: Reader> {
         ensures { ReturnsOrNoMemory result
             (table_at (unit self.now).abbrev_offset debug_abbrev.now) };
 
-    /// The entry at an offset, which must be among the unit's entries and no null entry there.
+    /// The entry at an offset, which must be among the unit's entries. It can't be a null entry.
     fn entry(
         &self,
         alloc: Global,
@@ -72,7 +72,7 @@ impl<R: Reader> UnitEntries<R> for UnitHeader<R> {
     }
 }
 
-/// The walk over the entries from an offset on, which must be among the unit's entries, or over all
+/// A walk over the entries from an offset on, which must be among the unit's entries, or over all
 /// of them. Takes memory only where a copy of the reader does.
 pub fn entries_raw<'abbrev, R: Reader>(
     unit: &UnitHeader<R>,
@@ -87,7 +87,7 @@ pub fn entries_raw<'abbrev, R: Reader>(
         Some(offset) => unit.range_from(offset..)?,
         None => unit.entries_reader().copy()?,
     };
-    // The entries are fewer bytes than the unit, and than the numbers of a slice's bytes.
+    // The entries have fewer bytes than the unit, and no more than a slice can have.
     let _header = unit.size_of_header();
     let _bytes = input.as_bytes();
     Ok(EntriesRaw {

@@ -6,5 +6,6 @@ pub mod SkipAgreementLemmas
 pub mod AfterLemmas
 pub mod FormSizes
 mod SpellingWidths
+mod WayWidths
 mod SkippingRuns
 mod FixedRuns

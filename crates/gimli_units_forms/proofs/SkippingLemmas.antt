@@ -10,7 +10,8 @@ use Rattle.gimli_core_abbrev.specs.Parsers.{proceed}
 use Rattle.gimli_core_abbrev.specs.Encoding.{Encoding}
 use Rattle.gimli_units_forms.specs.FormSpellings.{spelling}
 use Rattle.gimli_core_abbrev.specs.Results.{and_then}
-use Rattle.gimli_units_forms.specs.AttributeSkipping.{Way, by_width, by_look, look_of, width_of, plain_way, look_at_value, way_of, run, skip_ways}
+use Rattle.gimli_units_forms.specs.AttributeSkipping.{Way, by_width, by_look, look_of, plain_way, look_at_value, way_of, run, skip_ways}
+use Rattle.gimli_units_forms.proofs.WayWidths.{width_in}
 use Rattle.gimli_units_forms.proofs.FinalFormLemmas.{final_form-other, proceed_same}
 
 -- a run wider than 64 bits is refused
@@ -30,14 +31,14 @@ skip_ways-too_wide n (by_width w ∷ ways) v h k = skip_ways-too_wide (n + w) wa
 skip_ways-too_wide n (by_look look ∷ ways) v h k = rw (run-too_wide n v h k) refl
 
 -- a way without a look widens the run
-pub skip_ways-by_width : (n w : ℕ) (way : Way) (ways : List Way) (v : View) → Some w ≡ width_of way
+pub skip_ways-by_width : (n w : ℕ) (way : Way) (ways : List Way) (v : View) → Some w ≡ width_in way
     → skip_ways n (way ∷ ways) v ≡ skip_ways (n + w) ways v
 unfolding skip_ways
 skip_ways-by_width n w (by_width m) ways v e = let same : m ≡ w = cc in ap (λ (k : ℕ). skip_ways (n + k) ways v) same
 skip_ways-by_width n w (by_look look) ways v e = absurd cc
 
 -- a look ends the run
-skip_ways-look : (n : ℕ) (way : Way) (ways : List Way) (v : View) → None ≡ width_of way
+skip_ways-look : (n : ℕ) (way : Way) (ways : List Way) (v : View) → None ≡ width_in way
     → skip_ways n (way ∷ ways) v ≡ proceed (run n v) (λ _ u. proceed (look_of way u) (λ more. skip_ways more ways))
 unfolding skip_ways
 skip_ways-look n (by_width m) ways v e = absurd cc
@@ -57,7 +58,7 @@ look_of-way_of e form u = by_test (eqb form 0x16) refl
         (ap (λ (r : Result (ℕ × View) Error). proceed r (λ f. look_of (plain_way e f (spelling e f))))
         (final_form-other form u h))
 
-pub skip_ways-by_look : (n : ℕ) (e : Encoding) (form : ℕ) (ways : List Way) (v : View) → None ≡ width_of (way_of e form)
+pub skip_ways-by_look : (n : ℕ) (e : Encoding) (form : ℕ) (ways : List Way) (v : View) → None ≡ width_in (way_of e form)
     → skip_ways n (way_of e form ∷ ways) v
     ≡ proceed (run n v) (λ _ u. proceed (look_at_value e form u) (λ more. skip_ways more ways))
 skip_ways-by_look n e form ways v h =
@@ -69,7 +70,7 @@ skip_ways-by_look n e form ways v h =
 
 -- the run is refused
 pub skip_ways-run_fault : (n : ℕ) (e : Encoding) (form : ℕ) (ways : List Way) (v : View) (fault : Error)
-    → None ≡ width_of (way_of e form) → run n v ≡ Err fault
+    → None ≡ width_in (way_of e form) → run n v ≡ Err fault
     → skip_ways n (way_of e form ∷ ways) v ≡ Err fault
 skip_ways-run_fault n e form ways v fault h r =
     skip_ways-by_look n e form ways v h
@@ -78,7 +79,7 @@ skip_ways-run_fault n e form ways v fault h r =
 
 -- the look answers
 pub skip_ways-look_answers : (n : ℕ) (e : Encoding) (form : ℕ) (ways : List Way) (v u w : View)
-    (answer : Result ℕ Error) → None ≡ width_of (way_of e form) → run n v ≡ Ok (tt, u)
+    (answer : Result ℕ Error) → None ≡ width_in (way_of e form) → run n v ≡ Ok (tt, u)
     → ReturnsAs (λ more. (more, w)) answer (look_at_value e form u)
     → skip_ways n (way_of e form ∷ ways) v ≡ and_then answer (λ more. skip_ways more ways w)
 skip_ways-look_answers n e form ways v u w answer h r look =
@@ -93,7 +94,7 @@ skip_ways-look_answers n e form ways v u w answer h r look =
 
 -- the width joins the run
 pub skip_ways-width : (n w m : ℕ) (way : Way) (ways : List Way) (v : View) (sum : Option ℕ) (answer : Result ℕ Error)
-    → bytes_left v < 2 ^ 64 → Some w ≡ width_of way → m ≡ w
+    → bytes_left v < 2 ^ 64 → Some w ≡ width_in way → m ≡ w
     → SomeIff sum (n + m < 2 ^ 64) (n + m) → answer ≡ ok_or sum OffsetSumOverflow
     → skip_ways n (way ∷ ways) v ≡ and_then answer (λ more. skip_ways more ways v)
 skip_ways-width n w m way ways v sum answer short h same s a =

@@ -8,10 +8,12 @@ use Rattle.gimli_core_abbrev.specs.View.{View}
 use Rattle.gimli_core_abbrev.specs.Parsers.{proceed}
 use Rattle.gimli_core_abbrev.specs.Encoding.{Encoding}
 use Rattle.gimli_core_abbrev.specs.Declarations.{Attribute}
+use Rattle.gimli_core_abbrev.specs.FormWidths.{attribute_width}
 use Rattle.gimli_units_forms.specs.AttributeSkipping.{way_of, look_at_value, run, skip_ways, skip_values}
-use Rattle.gimli_units_forms.specs.SkippingLaws.{form_width, BeginsWithLook, skip_bytes_and_values, IsOneRun, WidthsAreOneRun, LooksBeginRuns, NothingIsSkipped}
+use Rattle.gimli_units_forms.specs.SkippingLaws.{BeginsWithLook, skip_bytes_and_values, IsOneRun, WidthsAreOneRun, LooksBeginRuns, NothingIsSkipped}
 use Rattle.gimli_units_forms.proofs.FinalFormLemmas.{proceed_same}
 use Rattle.gimli_units_forms.proofs.RunLemmas.{leaves, run-Ok, run-zero}
+use Rattle.gimli_units_forms.proofs.WayWidths.{way_width}
 use Rattle.gimli_units_forms.proofs.SkippingLemmas.{skip_ways-by_width, skip_ways-by_look}
 
 abbrev SkipResult : Type 0
@@ -19,18 +21,19 @@ SkipResult = Result (Unit {0} × View) Error
 
 -- known widths widen the run
 skip-widths : (n : ℕ) (e : Encoding) (fixed rest : List Attribute) (widths : List ℕ) (v : View)
-    → map (form_width e) fixed ≡ map Some widths
+    → map (attribute_width e) fixed ≡ map Some widths
     → skip_bytes_and_values n e (fixed ++ rest) v ≡ skip_bytes_and_values (n + sum widths) e rest v
 skip-widths n e [] rest [] v h =
     let same : n ≡ n + 0 = omega arith in ap (λ (k : ℕ). skip_bytes_and_values k e rest v) same
 skip-widths n e [] rest (w ∷ ws) v h = absurd cc
 skip-widths n e (s ∷ ss) rest [] v h = absurd cc
 skip-widths n e (s ∷ ss) rest (w ∷ ws) v h =
-    let head : form_width e s ≡ Some w = cc in
-    let tail : map (form_width e) ss ≡ map Some ws = cc in
+    let head : attribute_width e s ≡ Some w = cc in
+    let tail : map (attribute_width e) ss ≡ map Some ws = cc in
     let more : sum (w ∷ ws) ≡ w + sum ws = sum_by-cons (λ (x : ℕ). x) w ws in
     let same : n + w + sum ws ≡ n + sum (w ∷ ws) = omega (arith, more) in
-    skip_ways-by_width n w (way_of e s.form) (map (λ (t : Attribute). way_of e t.form) (ss ++ rest)) v (sym head)
+    skip_ways-by_width n w (way_of e s.form) (map (λ (t : Attribute). way_of e t.form) (ss ++ rest)) v
+    (sym (way_width e s.form ∙ head))
     ∙ skip-widths (n + w) e ss rest ws v tail
     ∙ ap (λ (k : ℕ). skip_bytes_and_values k e rest v) same
 
@@ -45,14 +48,14 @@ unfolding skip_ways skip_values
 skip-run n e [] v h = after_run (run n v) ∙ proceed_same (run n v) _ _ (λ _ u _. sym (run-zero u))
 skip-run n e (s ∷ ss) v h =
     let ways = map (λ (t : Attribute). way_of e t.form) ss in
-    skip_ways-by_look n e s.form ways v (sym h)
+    skip_ways-by_look n e s.form ways v (sym (way_width e s.form ∙ h))
     ∙ proceed_same (run n v) _ _ (λ _ u _. sym (by_look u))
   where
     by_look : (u : View) → skip_values e (s ∷ ss) u
         ≡ proceed (look_at_value e s.form u) (λ more. skip_bytes_and_values more e ss)
     by_look u =
         let ways = map (λ (t : Attribute). way_of e t.form) ss in
-        skip_ways-by_look 0 e s.form ways u (sym h)
+        skip_ways-by_look 0 e s.form ways u (sym (way_width e s.form ∙ h))
         ∙ ap (λ (r : SkipResult). proceed r (λ _ t. proceed (look_at_value e s.form t) (λ more. skip_ways more ways)))
         (run-zero u)
 
@@ -80,7 +83,7 @@ pub look-begins_run : LooksBeginRuns
 unfolding skip_values
 look-begins_run e s ss v h =
     let ways = map (λ (t : Attribute). way_of e t.form) ss in
-    skip_ways-by_look 0 e s.form ways v (sym h)
+    skip_ways-by_look 0 e s.form ways v (sym (way_width e s.form ∙ h))
     ∙ ap (λ (r : SkipResult). proceed r (λ _ t. proceed (look_at_value e s.form t) (λ more. skip_ways more ways)))
     (run-zero v)
 

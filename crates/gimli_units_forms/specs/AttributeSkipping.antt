@@ -1,7 +1,7 @@
 -- Skipping attributes by width alone. A run is what lies between two places where bytes must be
 -- looked at: a length, a LEB128 number, the number of a form, or a text. Numbers aren't judged,
 -- except lengths and numbers of forms.
-use Rattle.std.specs.Prelude.{ℕ, ◌+◌, ◌^◌, ◌==◌, nat_lt, nat_le, List, [], ◌∷◌, length, map, Option, Some, None, Ok, Err, if◌then◌else◌}
+use Rattle.std.specs.Prelude.{ℕ, ◌+◌, ◌^◌, ◌==◌, nat_lt, nat_le, List, [], ◌∷◌, length, map, Ok, Err, if◌then◌else◌}
 use Rattle.gimli_core_abbrev.specs.TheConstants.{DW_FORM_indirect}
 use Rattle.gimli_core_abbrev.specs.Error.{Error}
 use Rattle.gimli_core_abbrev.specs.Error.TheVariants.{UnknownForm, OffsetSumOverflow}
@@ -25,11 +25,6 @@ pub data Way : Type 0 where
 abbrev pub look_of : Way → Parser ℕ
 look_of (by_width n) = give n
 look_of (by_look look) = look
-
--- the width of a way without a look
-abbrev pub width_of : Way → Option ℕ
-width_of (by_width n) = Some n
-width_of (by_look look) = None
 
 -- skips a text and its zero byte
 abbrev pub skip_text : Parser (Unit {0})

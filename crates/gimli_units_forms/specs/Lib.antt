@@ -1,5 +1,6 @@
 pub use Rattle.gimli_core_abbrev.specs.AbbreviationViews
 pub use Rattle.gimli_core_abbrev.specs.Declarations
+pub use Rattle.gimli_core_abbrev.specs.FormWidths
 pub use Rattle.gimli_core_abbrev.specs.Places
 pub use Rattle.gimli_core_abbrev.specs.TableCache
 pub use Rattle.gimli_core_abbrev.specs.TableParsing

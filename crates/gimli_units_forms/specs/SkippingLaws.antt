@@ -7,16 +7,13 @@ use Rattle.gimli_core_abbrev.specs.View.{View, after, bytes_left, unexpected_end
 use Rattle.gimli_core_abbrev.specs.Parsers.{Parser, ◌>>=◌}
 use Rattle.gimli_core_abbrev.specs.Encoding.{Encoding}
 use Rattle.gimli_core_abbrev.specs.Declarations.{Attribute}
-use Rattle.gimli_units_forms.specs.AttributeSkipping.{width_of, way_of, look_at_value, skip_ways, skip_values}
-
--- the width of a value, where its form alone says it
-abbrev pub form_width : Encoding → Attribute → Option ℕ
-form_width e s = width_of (way_of e s.form)
+use Rattle.gimli_core_abbrev.specs.FormWidths.{attribute_width}
+use Rattle.gimli_units_forms.specs.AttributeSkipping.{way_of, look_at_value, skip_ways, skip_values}
 
 -- no values, or first one whose bytes must be looked at
 abbrev pub BeginsWithLook : Encoding → List Attribute → Type 0
 BeginsWithLook e [] = Unit {0}
-BeginsWithLook e (s ∷ ss) = form_width e s ≡ None
+BeginsWithLook e (s ∷ ss) = attribute_width e s ≡ None
 
 -- skips n bytes, and then the values that declarations describe
 abbrev pub skip_bytes_and_values : ℕ → Encoding → List Attribute → Parser (Unit {0})
@@ -36,13 +33,13 @@ pub record IsOneRun (n : ℕ) (e : Encoding) (rest : List Attribute) (v : View)
 -- at.
 abbrev pub WidthsAreOneRun : Type 0
 WidthsAreOneRun = (n : ℕ) (e : Encoding) (fixed rest : List Attribute) (widths : List ℕ) (v : View)
-    → map (form_width e) fixed ≡ map Some widths → BeginsWithLook e rest
+    → map (attribute_width e) fixed ≡ map Some widths → BeginsWithLook e rest
     → IsOneRun (n + sum widths) e rest v (skip_bytes_and_values n e (fixed ++ rest) v)
 
 -- A look at a value says how many bytes the next run begins with.
 abbrev pub LooksBeginRuns : Type 0
 LooksBeginRuns = (e : Encoding) (s : Attribute) (ss : List Attribute) (v : View)
-    → form_width e s ≡ None → skip_values e (s ∷ ss) v
+    → attribute_width e s ≡ None → skip_values e (s ∷ ss) v
     ≡ (look_at_value e s.form >>= λ n. skip_bytes_and_values n e ss) v
 
 -- No values take no bytes.

@@ -1,6 +1,7 @@
 ghost use Rattle.std.specs.Prelude.{◌≡◌, ◌<◌, ◌+◌, ◌^◌, ◌≤◌, ℕ, Result, Ok, IfOk, IfSome, List, ◌∷◌, map, length, Some, None, option_map};
 ghost use Rattle.gimli_core_abbrev.specs.Calls.{ReturnsAs, Reads};
 ghost use Rattle.gimli_core_abbrev.specs.Declarations.{Attribute};
+ghost use Rattle.gimli_core_abbrev.specs.FormWidths.{width_of};
 ghost use Rattle.gimli_core_abbrev.specs.AbbreviationViews.{attribute_view};
 ghost use Rattle.gimli_units_forms.specs.AttributeReading.{attributes};
 ghost use Rattle.gimli_core_abbrev.specs.NumberParsers.{unsigned};
@@ -8,7 +9,7 @@ ghost use Rattle.gimli_units_forms.specs.AttributeValues.{RawAttribute};
 ghost use Rattle.gimli_core_abbrev.specs.View.{View, after};
 ghost use Rattle.gimli_core_abbrev.specs.Results.{and_then};
 ghost use Rattle.gimli_units_forms.specs.SkippingLaws.{SkipsByRuns, BeginsWithLook, skip_bytes_and_values};
-ghost use Rattle.gimli_units_forms.specs.AttributeSkipping.{skip_text, way_of, width_of, look_at_value, run as run_of, Way, skip_ways, skip_values};
+ghost use Rattle.gimli_units_forms.specs.AttributeSkipping.{skip_text, way_of, look_at_value, run as run_of, Way, skip_ways, skip_values};
 
 use crate::reading::{read_fixed, read_form};
 use crate::spelling::{Spelling, spelling_of};
@@ -18,9 +19,8 @@ use gimli_core_abbrev::{
 
 // The width of a form's value, where it doesn't depend on the bytes.
 #[inline(always)]
-#[tactic(auto, unfolding(crate::specs::AttributeSkipping::way_of, crate::specs::FormSpellings::spelling))]
 fn fixed_width(encoding: Encoding, form: DwForm) -> Option<u8>
-    ensures { result ≡ width_of (way_of encoding form.0) }
+    ensures { result ≡ width_of encoding form.0 }
 {
     match spelling_of(encoding, form) {
         Spelling::Address => Some(encoding.address_size),
@@ -116,7 +116,7 @@ fn look_after<R: Reader>(
     form: DwForm,
     run: u64,
 ) -> Result<u64, Error>
-    requires { width_of (way_of encoding form.0) ≡ None }
+    requires { width_of encoding form.0 ≡ None }
     ensures { (ways : List Way)
         → skip_ways run (way_of encoding form.0 ∷ ways) (R.view place.old)
         ≡ and_then result (λ more. skip_ways more ways (R.view place.new)) }
@@ -134,7 +134,7 @@ fn widened<R: Reader>(
     run: u64,
     width: u8,
 ) -> Result<u64, Error>
-    requires { Some width ≡ width_of (way_of encoding form.0) }
+    requires { Some width ≡ width_of encoding form.0 }
     ensures { (ways : List Way)
         → skip_ways run (way_of encoding form.0 ∷ ways) (R.view place.now)
         ≡ and_then result (λ more. skip_ways more ways (R.view place.now)) }

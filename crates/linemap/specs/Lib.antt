@@ -59,7 +59,8 @@ pub use Rattle.linemap_commands.specs.ImageLaws
 pub use Rattle.linemap_commands.specs.SpelledImages
 pub use Rattle.linemap_commands.specs.WrittenNumbers
 pub use Rattle.linemap_replay.specs.CallEffects
-pub use Rattle.linemap_replay.specs.Outcomes
+pub use Rattle.linemap_replay.specs.OwnedPlaces
+pub use Rattle.linemap_replay.specs.RangeItems
 pub use Rattle.linemap_lookup_laws.specs.AddressTexts
 pub use Rattle.linemap_lookup_laws.specs.FrameTexts
 pub use Rattle.linemap_lookup_laws.specs.LineReads
@@ -69,7 +70,10 @@ pub use Rattle.linemap_lookup_laws.specs.ReadLimits
 pub use Rattle.linemap_lookup_laws.specs.Calls
 pub use Rattle.linemap_lookup_laws.specs.Error
 pub use Rattle.linemap_lookup_laws.specs.ErrorText
+pub use Rattle.linemap_lookup_laws.specs.FilePart
+pub use Rattle.linemap_lookup_laws.specs.FileParts
 pub use Rattle.linemap_lookup_laws.specs.FileReads
+pub use Rattle.linemap_lookup_laws.specs.LoadedParts
 pub use Rattle.linemap_lookup_laws.specs.LoadError
 pub use Rattle.linemap_lookup_laws.specs.LoadErrors
 pub use Rattle.linemap_lookup_laws.specs.NamedFiles

@@ -6,7 +6,8 @@ pub use linemap_commands::{
     cannot_load, cannot_write, emission, emit, no_such_target, table_out_of_memory, target_of,
 };
 pub use linemap_lookup_laws::{
-    Error, FileSource, LoadError, MapSource, SplitSource, load_out_of_memory, read_file, run,
+    Error, FileParts, FileSource, LoadError, MapSource, MemoryFile, PartSource, SplitSource,
+    load_out_of_memory, read_file, read_needed, read_parts, run,
 };
 pub use linemap_replay::{
     Answer, Call, OwnedFrame, OwnedLocation, OwnedName, OwnedStretch, OwnedUnit, replay,

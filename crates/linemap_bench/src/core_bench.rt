@@ -37,15 +37,21 @@ enum Measure {
     Fixed,
     Texts,
     Tables,
+    TableChecks,
 }
 
 // The measures, each with its names for borrowed and for shared bytes.
-const MEASURES: [(Measure, &str, &str); 5] = [
+const MEASURES: [(Measure, &str, &str); 6] = [
     (Measure::Unsigned, "unsigned slice", "unsigned bytes"),
     (Measure::Signed, "signed slice", "signed bytes"),
     (Measure::Fixed, "fixed slice", "fixed bytes"),
     (Measure::Texts, "texts slice", "texts bytes"),
     (Measure::Tables, "tables slice", "tables bytes"),
+    (
+        Measure::TableChecks,
+        "table_checks slice",
+        "table_checks bytes",
+    ),
 ];
 
 impl Measure {
@@ -55,7 +61,7 @@ impl Measure {
             Measure::Unsigned | Measure::Signed => &inputs.numbers,
             Measure::Fixed => &inputs.fixed,
             Measure::Texts => &inputs.texts,
-            Measure::Tables => &inputs.tables,
+            Measure::Tables | Measure::TableChecks => &inputs.tables,
         }
     }
 
@@ -67,6 +73,7 @@ impl Measure {
             Measure::Fixed => core_measures::fixed(input),
             Measure::Texts => core_measures::texts(input),
             Measure::Tables => core_measures::tables(alloc, input),
+            Measure::TableChecks => core_measures::table_checks(alloc, input),
         }
     }
 }

@@ -75,6 +75,25 @@ pub fn tables<R: Reader>(alloc: Global, section: R) -> u64 {
     sum
 }
 
+/// Tables of abbreviations that are checked alone: how many can be read.
+pub fn table_checks<R: Reader>(alloc: Global, section: R) -> u64 {
+    let end = section.len().into_u64();
+    let section = DebugAbbrev::from(section);
+    let mut count = 0u64;
+    for place in (0..end).step_by(core_bytes::TABLE) {
+        match check(alloc, &section, place) {
+            Ok(()) => count = count.wrapping_add(1),
+            Err(_) => break,
+        }
+    }
+    count
+}
+
+fn check<R: Reader>(alloc: Global, section: &DebugAbbrev<R>, place: u64) -> Result<(), Error> {
+    let offset = DebugAbbrevOffset(R::Offset::from_u64(place)?);
+    section.check_abbreviations(alloc, offset)
+}
+
 fn table<R: Reader>(
     alloc: Global,
     section: &DebugAbbrev<R>,

@@ -42,7 +42,10 @@ fn time_borrowed<R: Runtime + AllocGlobal>(rt: &R, section: &[u8]) -> io::Result
     report(rt, "instructions slice", sum, start)?;
     let start = Instant::now(rt)?;
     let sum = lines_measures::rows(rt.alloc(), slice(section));
-    report(rt, "rows slice", sum, start)
+    report(rt, "rows slice", sum, start)?;
+    let start = Instant::now(rt)?;
+    let sum = lines_measures::rows_at_once(rt.alloc(), slice(section));
+    report(rt, "rows_at_once slice", sum, start)
 }
 
 fn time_shared<R: Runtime + AllocGlobal>(rt: &R, section: &[u8]) -> io::Result<()> {
@@ -53,5 +56,9 @@ fn time_shared<R: Runtime + AllocGlobal>(rt: &R, section: &[u8]) -> io::Result<(
     let bytes = share(rt, section)?;
     let start = Instant::now(rt)?;
     let sum = lines_measures::rows(rt.alloc(), bytes);
-    report(rt, "rows bytes", sum, start)
+    report(rt, "rows bytes", sum, start)?;
+    let bytes = share(rt, section)?;
+    let start = Instant::now(rt)?;
+    let sum = lines_measures::rows_at_once(rt.alloc(), bytes);
+    report(rt, "rows_at_once bytes", sum, start)
 }

@@ -5,7 +5,7 @@ use crate::timing::mix;
 use gimli_core::{DebugLineOffset, Error, Reader, ReaderOffset};
 use gimli_lines_rows::{
     AttributeValue, ColumnType, DebugLine, FileEntry, IncompleteLineProgram, LineInstruction,
-    LinePrograms, LineRow, ProgramInstructions,
+    LinePrograms, LineRow, ProgramInstructions, RowSink,
 };
 use std::alloc::Global;
 
@@ -76,6 +76,34 @@ fn with_row(sum: u64, row: &LineRow) -> u64 {
     let sum = mix(mix(sum, line), column);
     let sum = mix(mix(sum, row.discriminator()), u64::from(row.is_stmt()));
     mix(sum, u64::from(row.end_sequence()))
+}
+
+/// The same rows, all given to a sink.
+pub fn rows_at_once<R: Reader>(alloc: Global, section: R) -> Result<u64, Error> {
+    let mut sum = RowSum { sum: 0 };
+    program(alloc, section)?.rows()?.run_all(&mut sum)?;
+    Ok(sum.sum)
+}
+
+// The checksum of the rows that it is given.
+#[derive(Drop)]
+struct RowSum {
+    sum: u64,
+}
+
+impl RowSink for RowSum {
+    ghost use Rattle.gimli_lines_rows.specs.Registers.{Registers};
+
+    ghost Kept = { Registers };
+
+    ghost form = { λ row. row };
+
+    ghost HasTaken = { λ sum rows. Unit {0} };
+
+    fn take(&mut self, row: &LineRow) -> Result<(), Error> {
+        self.sum = with_row(self.sum, row);
+        Ok(())
+    }
 }
 
 /// All headers of a section, each with its files.

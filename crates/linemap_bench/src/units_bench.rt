@@ -15,13 +15,15 @@ enum Measure {
     Read,
     Whole,
     Skipped,
+    Functions,
 }
 
 // The measures, each with its names for borrowed and for shared bytes.
-const MEASURES: [(Measure, &str, &str); 3] = [
+const MEASURES: [(Measure, &str, &str); 4] = [
     (Measure::Read, "read slice", "read bytes"),
     (Measure::Whole, "whole slice", "whole bytes"),
     (Measure::Skipped, "skipped slice", "skipped bytes"),
+    (Measure::Functions, "functions slice", "functions bytes"),
 ];
 
 impl Measure {
@@ -31,6 +33,7 @@ impl Measure {
             Measure::Read => units_measures::read_all(alloc, info, abbrev),
             Measure::Whole => units_measures::read_whole(alloc, info, abbrev),
             Measure::Skipped => units_measures::skip_all(alloc, info, abbrev),
+            Measure::Functions => units_measures::functions(alloc, info, abbrev),
         }
     }
 }

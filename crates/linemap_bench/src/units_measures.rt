@@ -3,8 +3,8 @@
 
 use crate::timing::mix;
 use gimli_core::{
-    Abbreviations, DebugAbbrev, DebugAddr, DebugAddrBase, DebugRngListsBase, DebugRngListsIndex,
-    Encoding, Error, Format, Reader, ReaderOffset,
+    Abbreviations, DW_TAG_subprogram, DebugAbbrev, DebugAddr, DebugAddrBase, DebugRngListsBase,
+    DebugRngListsIndex, Encoding, Error, Format, Reader, ReaderOffset,
 };
 use gimli_units::{
     Attribute, AttributeValue, DebugInfo, DebugRanges, DebugRngLists, DebuggingInformationEntry,
@@ -123,6 +123,23 @@ fn skip_entry<R: Reader>(entries: &mut EntriesRaw<'_, R>, sum: u64) -> Result<u6
     };
     entries.skip_entry(&abbreviation)?;
     Ok(mix(sum, u64::from(abbreviation.tag().0)))
+}
+
+/// The entries of functions of a unit, their attributes skipped, and all entries between them.
+#[inline(never)]
+pub fn functions<R: Reader>(alloc: Global, info: R, abbrev: R) -> Result<u64, Error> {
+    let unit = first_unit(info)?;
+    let abbreviations = abbreviations(alloc, &unit, abbrev)?;
+    let mut entries = entries_raw(&unit, &abbreviations, None)?;
+    let mut sum = 0;
+    for _ in 0..unit.unit_length().into_u64() {
+        entries.skip_others(&[DW_TAG_subprogram], isize::MIN);
+        if entries.is_empty() {
+            break;
+        }
+        sum = skip_entry(&mut entries, sum)?;
+    }
+    Ok(sum)
 }
 
 // ---- lists of ranges

@@ -15,9 +15,10 @@ use Rattle.linemap_emit_units.specs.Conditions.{any_call, is_bad_number, has_no_
 use Rattle.linemap_emit_units.specs.Entry.{Entry}
 use Rattle.linemap_emit_units.specs.Entry.TheVariants.{CompileUnit}
 use Rattle.linemap_emit_units.specs.EmittedUnits.{IsWritten}
+use Rattle.addr2line_functions.specs.ContextNames.{naming_from}
 use Rattle.addr2line_functions.specs.EntryReferences.{KnownUnits, HoldingUnit}
 use Rattle.linemap_emit_calls_laws.specs.RecordedFunctions.{RecordsFunctions}
-use Rattle.linemap_emit_calls_laws.specs.FunctionLaws.{written_facts, naming_of_holder, FunctionsFound}
+use Rattle.linemap_emit_calls_laws.specs.FunctionLaws.{written_facts, FunctionsFound}
 use Rattle.linemap_emit_calls_laws.proofs.FunctionEntriesRead.{unit_functions_read}
 
 -- no item passes the first of two tests where none passes one of them
@@ -40,7 +41,7 @@ pub functions_found : (e : Encoding) (is_big : Bool) (s : DwarfFile) (offset fir
     → RecordsFunctions e s number u.functions (CompileUnit name directory line_program range_list) others
     → FunctionsFound number u.functions (in_file s (written_facts e is_big offset first
     (CompileUnit name directory line_program range_list ∷ others) b unit_name unit_directory header))
-    (naming_of_holder known h)
+    (naming_from known h)
 functions_found e is_big s offset first name directory line_program range_list others b unit_name unit_directory header
     known h number u w main encoding low holds ranges numbers recorded =
     let calls_plain = or_parts _ (list_any (λ f. any_call

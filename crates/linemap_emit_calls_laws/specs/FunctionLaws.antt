@@ -16,7 +16,7 @@ use Rattle.linemap_emit_units.specs.EmittedUnits.{IsWritten, unit_for}
 use Rattle.addr2line_functions.specs.Functions.{Function as FoundFunction, functions_of_unit}
 use Rattle.addr2line_functions.specs.InlinedCalls.{Naming, calls_of_function}
 use Rattle.addr2line_functions.specs.EntryReferences.{KnownUnits, HoldingUnit}
-use Rattle.addr2line_functions.specs.FunctionNames.{name_with, name_by_reference, most_references}
+use Rattle.addr2line_functions.specs.ContextNames.{naming_from}
 use Rattle.linemap_frames_laws.specs.CallAgreement.{FunctionsAgree}
 use Rattle.linemap_emit_calls_laws.specs.RecordedFunctions.{RecordsFunctions}
 
@@ -33,10 +33,6 @@ written_facts e is_big offset first all b name directory header = record {
   line_header = header;
   dwo_id = None;
 }
-
--- how names are found in a unit
-abbrev pub naming_of_holder : KnownUnits → HoldingUnit → Naming
-naming_of_holder known h = name_with h (name_by_reference known most_references h)
 
 -- the functions of a unit are a table's, and each is found with its name and its calls
 pub record FunctionsFound (number : ℕ → ℕ) (fs : List FunctionPart) (u : UnitInFile)
@@ -60,4 +56,4 @@ FunctionsAgain =
     IsWritten e → s.sections.file_type ≡ Main → b.encoding ≡ e → b.low_pc ≡ 0 → h.unit ≡ unit
     → has_no_range u ≡ false → has_bad_line_or_column u ≡ false
     → RecordsFunctions e s number u.functions root others
-    → FunctionsFound number u.functions unit (naming_of_holder known h)
+    → FunctionsFound number u.functions unit (naming_from known h)

@@ -160,7 +160,8 @@ module _ (s : DwarfFile) (facts : UnitFacts) (h : LineHeader) (u : UnitPart) (st
       by true old =
           let listed : map see h.directories ≡ map (bytes_of_text [] st.line_texts) (drop 1 st.tables.directories) =
           tables.directories_read
-          ∙ ap (λ b. map (bytes_of_text [] st.line_texts) (cond b (drop 1 st.tables.directories) st.tables.directories)) old
+          ∙ ap
+          (λ b. map (bytes_of_text [] st.line_texts) (cond b (drop 1 st.tables.directories) st.tables.directories)) old
           in
           let at =
           mapped_at see (bytes_of_text [] st.line_texts) h.directories (drop 1 st.tables.directories) (n - 1) t listed
@@ -173,7 +174,8 @@ module _ (s : DwarfFile) (facts : UnitFacts) (h : LineHeader) (u : UnitPart) (st
       by false new =
           let listed : map see h.directories ≡ map (bytes_of_text [] st.line_texts) st.tables.directories =
           tables.directories_read
-          ∙ ap (λ b. map (bytes_of_text [] st.line_texts) (cond b (drop 1 st.tables.directories) st.tables.directories)) new
+          ∙ ap
+          (λ b. map (bytes_of_text [] st.line_texts) (cond b (drop 1 st.tables.directories) st.tables.directories)) new
           in
           let at =
           mapped_at see (bytes_of_text [] st.line_texts) h.directories st.tables.directories n t listed there in (

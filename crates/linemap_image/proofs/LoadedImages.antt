@@ -17,7 +17,7 @@ use Rattle.addr2line_loader.specs.ElfDebugSections.{is_read, main_section}
 use Rattle.addr2line_loader.specs.ImageFiles.{offset_limit, bytes_or_none, main_file}
 use Rattle.addr2line_loader.specs.SectionLoading.{load_order}
 use Rattle.addr2line_loader.specs.SectionLoading as sections
-use Rattle.addr2line_loader.specs.LoadedFiles.{with_shared_tables, or_load_error, SharedContext, FileParts, parts_with, parts_of, file_of_parts, loaded_file}
+use Rattle.addr2line_loader.specs.LoadedFiles.{with_shared_tables, or_load_error, SharedContext, ImageParts, parts_with, parts_of, file_of_parts, loaded_file}
 use Rattle.linemap_elf.specs.SpelledImages.{NamedBytes, all_sections}
 use Rattle.linemap_elf.specs.ImageLaws.{bytes_named, HoldsSections}
 use Rattle.linemap_emit.specs.BytesAt.{bytes_at}
@@ -181,7 +181,7 @@ module _ (e : Encoding) (is_big : Bool) (bytes : SectionBytes) (file : List ℕ)
   abbrev shared : FileContext → SharedContext
   shared c = record { sections = with_shared_tables dwarf; context = c }
 
-  abbrev parts : FileParts
+  abbrev parts : ImageParts
   parts = record { symbols = []; debug = shared dwarf_context }
 
   main_is : main_file image ≡ Ok dwarf
@@ -204,7 +204,7 @@ module _ (e : Encoding) (is_big : Bool) (bytes : SectionBytes) (file : List ℕ)
   loaded_is : loaded_file file None ≡ Ok (file_of_parts image parts)
   loaded_is =
       ap (λ (r : Result Image LoadError). r >>= λ i. parts_of i None >>= λ ps. Ok (file_of_parts i ps)) held.image_is
-      ∙ ap (λ (r : Result FileParts LoadError). r >>= λ ps. Ok (file_of_parts image ps)) parts_are
+      ∙ ap (λ (r : Result ImageParts LoadError). r >>= λ ps. Ok (file_of_parts image ps)) parts_are
 
   answered : FileAnswers file us
   answered = record {

@@ -31,6 +31,9 @@ pub mod ReadLimits
 pub mod LookupRuns
 pub mod Programs
 pub mod FoundFiles
+pub use Rattle.addr2line_split.specs.FilePart
+pub use Rattle.addr2line_split.specs.FileParts
 pub use Rattle.addr2line_split.specs.FileReads
+pub use Rattle.addr2line_split.specs.LoadedParts
 pub use Rattle.addr2line_split.specs.NamedFiles
 pub use Rattle.addr2line_split.specs.declared.map_source.SplitFile

@@ -20,7 +20,10 @@ mod write_lines;
 pub use addr2line_context::Error;
 pub use addr2line_debug_files::{FilesByPath, NamedFile, SystemFiles};
 pub use addr2line_loader::{DecompressedSource, Loader};
-pub use addr2line_split::{FileSource, LoadError, MapSource, SplitSource, read_file};
+pub use addr2line_split::{
+    FileParts, FileSource, LoadError, MapSource, MemoryFile, PartSource, SplitSource, read_file,
+    read_needed, read_parts,
+};
 pub use debug_files::{load_decompressed, load_found};
 pub use linemap_output::{Ended, Options};
 pub use loaded::run_loaded;

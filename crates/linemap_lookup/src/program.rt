@@ -4,6 +4,7 @@ ghost use Rattle.std.specs.Prelude.{◌≡◌, IfErr, IfOk, Ok, OnOk, codes, fal
 ghost use Rattle.std.specs.String.{string_bytes};
 ghost use Rattle.std.specs.Io.KnownBytes.{Appends};
 ghost use Rattle.addr2line_loader.specs.LoadedFiles.{loaded_file};
+ghost use Rattle.addr2line_split.specs.FileParts.{bytes_if_any};
 ghost use Rattle.addr2line_split.specs.LoadErrors.{text_of};
 ghost use Rattle.linemap_output.specs.ErrorLine.{error_line};
 ghost use Rattle.linemap_lookup.specs.LookupRuns.{AnswersAll, AnswersSome};
@@ -15,8 +16,7 @@ use crate::engine::Engine;
 use crate::write::Question;
 use addr2line_context::Range;
 use addr2line_loader::Loader;
-use addr2line_split::{LoadError, SplitSource};
-use bytes::Bytes;
+use addr2line_split::{FileParts, LoadError, SplitSource};
 use linemap_output::{Ended, Options, fail};
 use std::alloc::Global;
 use std::io::{BufRead, Write};
@@ -44,17 +44,19 @@ pub(crate) fn load_refused<E: Write>(alloc: Global, error: LoadError, err: &mut 
 // Loads a file with its supplement.
 fn load<E: Write>(
     alloc: Global,
-    image: Bytes,
-    supplement: Option<Bytes>,
+    image: FileParts,
+    supplement: Option<FileParts>,
     err: &mut E,
 ) -> Result<Loader, Ended>
-    ensures file { IfOk result (λ loader. loaded_file image supplement ≡ Ok loader.file) }
+    ensures file { IfOk result (λ loader.
+        loaded_file image.bytes (bytes_if_any supplement) ≡ Ok loader.file) }
     ensures same { OnOk result (err.new ≡ err.old) }
     ensures refusal { IfErr result (RefusesByOrLacksMemory
-        (or_line (codes "failed to load debug info: ") text_of (loaded_file image supplement))
+        (or_line (codes "failed to load debug info: ") text_of
+        (loaded_file image.bytes (bytes_if_any supplement)))
         load_memory_line (E.contents err.old) (E.contents err.new)) }
 {
-    match Loader::from_bytes(alloc, image, supplement) {
+    match Loader::from_parts(alloc, image, supplement) {
         Ok(loader) => Ok(loader),
         Err(LoadError::Memory) => Err(load_out_of_memory(err)),
         Err(error) => Err(load_refused(alloc, error, err)),
@@ -183,16 +185,17 @@ impl Engine {
 fn answer_image<S: SplitSource, R: BufRead, O: Write, E: Write>(
     alloc: Global,
     options: &Options,
-    image: Bytes,
-    supplement: Option<Bytes>,
+    image: FileParts,
+    supplement: Option<FileParts>,
     source: &mut S,
     lines: &mut R,
     out: &mut O,
     err: &mut E,
 ) -> Ended
     ensures { Runs S.answers options.now source.old (R.remaining lines.old)
-        (R.remaining lines.new) (LacksMemoryFor options.now image supplement)
-        (question options.now image supplement)
+        (R.remaining lines.new)
+        (LacksMemoryFor options.now image.bytes (bytes_if_any supplement))
+        (question options.now image.bytes (bytes_if_any supplement))
         (record { out = O.contents out.old; err = E.contents err.old })
         (record { out = O.contents out.new; err = E.contents err.new }) result }
 {
@@ -207,17 +210,18 @@ fn answer_image<S: SplitSource, R: BufRead, O: Write, E: Write>(
     }
 }
 
-/// Answers the addresses that the options ask for: all at which a place of the file begins, or
-/// those of words, or else those of lines, each as soon as its line is read, until the input ends,
-/// a read fails or a line is no text. The output is flushed after each answer. Loads are answered
-/// by the source's split files. Each refusal has an error line; after that of an address the next
-/// one is answered. A fault of the error stream only sets `write` in the result. It is what a
-/// process does last: the memory of what was loaded isn't given back.
+/// Answers the addresses that the options ask for, of a file of which the parts that a loader needs
+/// are in memory: all at which a place of the file begins, or those of words, or else those of
+/// lines, each as soon as its line is read, until the input ends, a read fails or a line is no
+/// text. The output is flushed after each answer. Loads are answered by the source's split files.
+/// Each refusal has an error line; after that of an address the next one is answered. A fault of
+/// the error stream only sets `write` in the result. It is what a process does last: the memory of
+/// what was loaded isn't given back.
 pub fn run<S: SplitSource + Drop, R: BufRead, O: Write, E: Write>(
     alloc: Global,
     options: &Options,
-    image: Bytes,
-    supplement: Option<Bytes>,
+    image: FileParts,
+    supplement: Option<FileParts>,
     source: S,
     lines: &mut R,
     out: &mut O,
@@ -225,12 +229,13 @@ pub fn run<S: SplitSource + Drop, R: BufRead, O: Write, E: Write>(
 ) -> Ended
     ensures clean { result.memory ≡ false → result.write ≡ false → (p : Outcome)
         × Prints S.answers options.now source (R.remaining lines.old) (R.remaining lines.new)
-        (question options.now image supplement) result.read p
+        (question options.now image.bytes (bytes_if_any supplement)) result.read p
         × Appends (O.contents out.old) (O.contents out.new) p.out
         × Appends (E.contents err.old) (E.contents err.new) p.err × (result.status ≡ p.status) }
     ensures runs { Runs S.answers options.now source (R.remaining lines.old)
-        (R.remaining lines.new) (LacksMemoryFor options.now image supplement)
-        (question options.now image supplement)
+        (R.remaining lines.new)
+        (LacksMemoryFor options.now image.bytes (bytes_if_any supplement))
+        (question options.now image.bytes (bytes_if_any supplement))
         (record { out = O.contents out.old; err = E.contents err.old })
         (record { out = O.contents out.new; err = E.contents err.new }) result }
 {

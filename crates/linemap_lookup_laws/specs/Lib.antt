@@ -10,7 +10,10 @@ pub mod TableTextLaws
 pub use Rattle.linemap_lookup.specs.Calls
 pub use Rattle.linemap_lookup.specs.Error
 pub use Rattle.linemap_lookup.specs.ErrorText
+pub use Rattle.linemap_lookup.specs.FilePart
+pub use Rattle.linemap_lookup.specs.FileParts
 pub use Rattle.linemap_lookup.specs.FileReads
+pub use Rattle.linemap_lookup.specs.LoadedParts
 pub use Rattle.linemap_lookup.specs.LoadError
 pub use Rattle.linemap_lookup.specs.LoadErrors
 pub use Rattle.linemap_lookup.specs.NamedFiles

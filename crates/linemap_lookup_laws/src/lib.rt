@@ -4,7 +4,7 @@
 mod table_text_laws;
 
 pub use linemap_lookup::{
-    Error, FileSource, LoadError, MapSource, SplitSource, limits, load_out_of_memory, read_file,
-    run,
+    Error, FileParts, FileSource, LoadError, MapSource, MemoryFile, PartSource, SplitSource,
+    limits, load_out_of_memory, read_file, read_needed, read_parts, run,
 };
 pub use table_text_laws::table_printed;

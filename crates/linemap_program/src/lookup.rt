@@ -3,8 +3,8 @@
 use bytes::Bytes;
 use linemap_commands::cannot_load;
 use linemap_lookup::{
-    DecompressedSource, Ended, FileSource, LoadError, Loader, NamedFile, SystemFiles,
-    load_decompressed, load_found, load_out_of_memory, read_file, run, run_loaded,
+    DecompressedSource, Ended, FileParts, FileSource, LoadError, Loader, NamedFile, SystemFiles,
+    load_decompressed, load_found, load_out_of_memory, read_file, read_parts, run, run_loaded,
 };
 use linemap_text::out_of_memory;
 use linemap_words::{DebugSources, Options};
@@ -24,23 +24,28 @@ pub fn look_up<R: Files + Input + AllocGlobal, O: Write, E: Write>(
     out: &mut O,
     err: &mut E,
 ) -> u8 {
-    let image = match read_file(rt, exe) {
-        Ok(image) => image,
-        Err(error) => return refuse(err, error),
-    };
-    let supplement = match sup {
-        Some(path) => match read_file(rt, path.as_str()) {
-            Ok(bytes) => Some(bytes),
-            Err(error) => return refuse(err, error),
-        },
-        None => None,
-    };
-    if sources.decompress {
-        return match load_from(rt, exe, image, supplement, sources, err) {
-            Ok(loader) => look_up_loaded(rt, loader, options, out, err),
-            Err(ended) => ended.status,
-        };
+    if !sources.decompress {
+        return look_up_parts(rt, exe, sup, options, out, err);
     }
+    match load_from(rt, exe, sup, sources, err) {
+        Ok(loader) => look_up_loaded(rt, loader, options, out, err),
+        Err(ended) => ended.status,
+    }
+}
+
+// Looks addresses up in a file, of which only the parts that a loader needs are read.
+fn look_up_parts<R: Files + Input + AllocGlobal, O: Write, E: Write>(
+    rt: &R,
+    exe: &str,
+    sup: Option<String>,
+    options: &Options,
+    out: &mut O,
+    err: &mut E,
+) -> u8 {
+    let (image, supplement) = match read_parts_of(rt, exe, sup) {
+        Ok(files) => files,
+        Err(error) => return refuse(err, error).status,
+    };
     let mut lines = match BufReader::new(rt.alloc(), rt.reader()) {
         Ok(lines) => lines,
         Err(_) => return out_of_memory(err).status,
@@ -59,15 +64,46 @@ pub fn look_up<R: Files + Input + AllocGlobal, O: Write, E: Write>(
     .status
 }
 
+// The parts of a file and of its supplement that a loader needs.
+fn read_parts_of<R: Files + AllocGlobal>(
+    rt: &R,
+    exe: &str,
+    sup: Option<String>,
+) -> Result<(FileParts, Option<FileParts>), LoadError> {
+    let image = read_parts(rt, exe)?;
+    let supplement = match sup {
+        Some(path) => Some(read_parts(rt, path.as_str())?),
+        None => None,
+    };
+    Ok((image, supplement))
+}
+
+// All bytes of a file and of its supplement.
+fn read_all_of<R: Files + AllocGlobal>(
+    rt: &R,
+    exe: &str,
+    sup: Option<String>,
+) -> Result<(Bytes, Option<Bytes>), LoadError> {
+    let image = read_file(rt, exe)?;
+    let supplement = match sup {
+        Some(path) => Some(read_file(rt, path.as_str())?),
+        None => None,
+    };
+    Ok((image, supplement))
+}
+
 // Loads a file with its supplement, both decompressed, or the debug file that is found for it.
 fn load_from<R: Files + AllocGlobal, E: Write>(
     rt: &R,
     exe: &str,
-    image: Bytes,
-    supplement: Option<Bytes>,
+    sup: Option<String>,
     sources: &DebugSources,
     err: &mut E,
 ) -> Result<Loader, Ended> {
+    let (image, supplement) = match read_all_of(rt, exe, sup) {
+        Ok(files) => files,
+        Err(error) => return Err(refuse(err, error)),
+    };
     match &sources.folders {
         Some(folders) => load_by_search(rt, exe, image, supplement, folders, err),
         None => load_decompressed(rt.alloc(), image, supplement, err),
@@ -136,9 +172,9 @@ fn look_up_loaded<R: Files + Input + AllocGlobal, O: Write, E: Write>(
 }
 
 // Ends after a file that is not read.
-fn refuse<E: Write>(err: &mut E, error: LoadError) -> u8 {
+fn refuse<E: Write>(err: &mut E, error: LoadError) -> Ended {
     match error {
-        LoadError::Memory => load_out_of_memory(err).status,
-        _ => cannot_load(err).status,
+        LoadError::Memory => load_out_of_memory(err),
+        _ => cannot_load(err),
     }
 }

@@ -11,8 +11,9 @@ use Rattle.addr2line_context.specs.LoadAnswers.{AnswersOrNoMemory}
 use Rattle.addr2line_context.specs.Lookups.{answer_load}
 use Rattle.addr2line_context.specs.Preloads.{load_of_item}
 use Rattle.addr2line_context.specs.SettledLookups.{loads_in}
+use Rattle.addr2line_context.specs.OwnedPlaces.{CopiesOrNoMemory}
 use Rattle.linemap_replay.specs.declared.answer.Answer.{Answer}
-use Rattle.linemap_replay.specs.Outcomes.{CopiesOrNoMemory, Refuses, Completes}
+use Rattle.linemap_replay.specs.Outcomes.{Refuses, Completes}
 use Rattle.linemap_replay.specs.OwnedAnswers.{CopiedAnswer, dwo_ids, missing_token, answer_of, copied_answer}
 use Rattle.linemap_replay.specs.Replays.{state_of, call_on, token_of}
 use Rattle.linemap_replay.proofs.CopiedAnswers.{completion_copy, if_completed, meaning_is_answer}

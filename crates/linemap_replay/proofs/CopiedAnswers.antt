@@ -9,8 +9,9 @@ use Rattle.addr2line_context.specs.FirstAnswers.{FirstAnswer, FirstAnswers, Look
 use Rattle.addr2line_context.specs.Histories.{CallAnswer, completion, answer_or_suspension, parse_all}
 use Rattle.addr2line_context.specs.LoadAnswers.{AnswersOrNoMemory}
 use Rattle.addr2line_context.specs.UnitLookups.{IsPending}
+use Rattle.addr2line_context.specs.OwnedPlaces.{CopiesOrNoMemory}
 use Rattle.linemap_replay.specs.declared.answer.Answer.{Answer}
-use Rattle.linemap_replay.specs.Outcomes.{CopiesOrNoMemory, Refuses, Completes}
+use Rattle.linemap_replay.specs.Outcomes.{Refuses, Completes}
 use Rattle.linemap_replay.specs.OwnedAnswers.{CopiedAnswer, dropped_lookup, refusal, answer_of, copied_answer, copied_or_refusal}
 
 -- ---- results

@@ -5,8 +5,8 @@ use Rattle.addr2line_context.specs.Error.{Error}
 use Rattle.addr2line_context.specs.Lines.{Stretch}
 use Rattle.addr2line_context.specs.Repetition.{Listing, prepend}
 use Rattle.addr2line_context.specs.StretchesLeft.{StretchComesNext}
-use Rattle.linemap_replay.specs.OwnedAnswers.{stretch_of}
-use Rattle.linemap_replay.specs.declared.answer.OwnedStretch.{OwnedStretch}
+use Rattle.addr2line_context.specs.OwnedPlaces.{stretch_of}
+use Rattle.addr2line_context.specs.declared.owned_places.OwnedStretch.{OwnedStretch}
 
 -- the copies so far and what is left are all still, after one more
 pub one_more_stretch : {A : Type 0} (see : A → Stretch) (all old new : Listing (Unit {0}) Stretch)

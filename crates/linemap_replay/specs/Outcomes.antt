@@ -1,15 +1,11 @@
--- How what is copied relates to what it is a copy of. Out of memory is never an answer.
+-- How the end of a call relates to the answer that is copied of it. Out of memory is never an
+-- answer.
 use Rattle.std.specs.Prelude.{◌≡◌, ◌≢◌, Result, Ok, Err}
 use Rattle.addr2line_context.specs.Error.{Error}
 use Rattle.addr2line_context.specs.Error.TheVariants.{Memory}
 use Rattle.addr2line_context.specs.Histories.{completion}
 use Rattle.linemap_replay.specs.declared.answer.Answer.{Answer}
 use Rattle.linemap_replay.specs.OwnedAnswers.{refusal, answer_of, copied_answer}
-
--- a copy of a value, or out of memory
-abbrev pub CopiesOrNoMemory : {A B : Type 0} → (A → B) → Result A Error → B → Type 0
-CopiesOrNoMemory see (Ok x) value = see x ≡ value
-CopiesOrNoMemory see (Err e) value = e ≡ Memory
 
 -- a refusal as an answer, unless it is out of memory
 abbrev pub Refuses : Error → Result Answer Error → Type 0

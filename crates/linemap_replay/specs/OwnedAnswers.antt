@@ -1,6 +1,5 @@
 -- Answers of calls as copies, which borrow nothing of a context.
 use Rattle.std.specs.Prelude.{ℕ, List, map, Option, Some, None, option_map, Result, Ok, Err}
-use Rattle.std.specs.String.{string_bytes}
 use Rattle.addr2line_context.specs.Error.{Error}
 use Rattle.addr2line_context.specs.Repetition.{Listing}
 use Rattle.addr2line_context.specs.DwarfFileType.{DwarfFileType}
@@ -8,10 +7,9 @@ use Rattle.addr2line_context.specs.UnitFacts.{UnitInFile}
 use Rattle.addr2line_context.specs.Lines.{Location, Stretch}
 use Rattle.addr2line_context.specs.Frames.{FunctionName, Frame}
 use Rattle.addr2line_context.specs.Histories.{CallAnswer, location_answer, frames_answer, unit_answer, stretches_answer, loads_answer, completion, suspension, no_token}
-use Rattle.linemap_replay.specs.declared.answer.OwnedLocation.{OwnedLocation}
+use Rattle.addr2line_context.specs.OwnedPlaces.{location_of, stretch_of}
 use Rattle.linemap_replay.specs.declared.answer.OwnedName.{OwnedName}
 use Rattle.linemap_replay.specs.declared.answer.OwnedFrame.{OwnedFrame}
-use Rattle.linemap_replay.specs.declared.answer.OwnedStretch.{OwnedStretch}
 use Rattle.linemap_replay.specs.declared.answer.OwnedUnit.{OwnedUnit}
 use Rattle.linemap_replay.specs.declared.answer.Answer.{Answer}
 use Rattle.linemap_replay.specs.declared.answer.Answer.TheVariants.{Location as LocationFound, Frames as FramesFound, Range as RangeFound, Unit as UnitFound, Preload, Done, Refused, Suspended, NoToken}
@@ -78,16 +76,6 @@ copied_answer no_token = missing_token
 
 -- ---- of the program's values
 
-abbrev pub location_of : OwnedLocation → Location
-location_of l =
-    record {
-      file = option_map string_bytes l.file;
-      line = l.line;
-      column = l.column;
-      statement = l.statement;
-      discriminator = l.discriminator;
-    }
-
 abbrev pub name_of : OwnedName → CopiedName
 name_of n = record { name = n.name.items; language = option_map (λ l. l.0) n.language }
 
@@ -98,10 +86,6 @@ frame_of f =
       function = option_map name_of f.function;
       location = option_map location_of f.location;
     }
-
-abbrev pub stretch_of : OwnedStretch → Stretch
-stretch_of s =
-    record { address = s.address; length = s.length; location = location_of s.location }
 
 abbrev pub unit_of : OwnedUnit → CopiedUnit
 unit_of u = record { file_type = u.file_type; offset = u.offset }

@@ -1,26 +1,30 @@
 //! Lookups of an address that may wait for loads, and copies of what they find.
 
-ghost use Rattle.std.specs.Prelude.{◌≡◌, ℕ};
+ghost use Rattle.std.specs.Prelude.{◌≡◌, ℕ, List};
 ghost use Rattle.addr2line_context.specs.AnsweredContexts.{AnsweredContext};
 ghost use Rattle.addr2line_context.specs.FirstAnswers.{Lookup};
-ghost use Rattle.addr2line_context.specs.FrameLoads.{IsDone, TellsWaiting};
+ghost use Rattle.addr2line_context.specs.FrameLoads.{DecidesUnlessWaiting};
 ghost use Rattle.addr2line_context.specs.Histories.{CallAnswer, answer_or_suspension};
+ghost use Rattle.addr2line_context.specs.OwnedPlaces.{CopiesOrNoMemory};
+ghost use Rattle.addr2line_context.specs.ResolvedUnits.{ResolvedUnit};
 ghost use Rattle.addr2line_context.specs.SettledLookups.{loads_in};
 ghost use Rattle.linemap_replay.specs.CallEffects.{Covers, KeepsAndReads};
-ghost use Rattle.linemap_replay.specs.Outcomes.{CopiesOrNoMemory};
 ghost use Rattle.linemap_replay.specs.OwnedAnswers.{answer_of, copied_answer};
 ghost use Rattle.linemap_replay.specs.Replays.{WaitsForFirst};
 
 use crate::answer::Answer;
 use crate::completions::refuse;
 use crate::copied_frames::{answer_frames, copy_unit_if_any};
-use addr2line_context::frame_loads::{find_decided_frames, frames_wait};
-use addr2line_context::unit_loads::{find_decided_unit, functions_unit, unit_waits};
+use addr2line_context::frame_loads::{DecidedFrames, lend_frames, settle_frames};
+use addr2line_context::unit_loads::{DecidedUnit, lend_unit, settle_unit};
 use addr2line_context::{Context, Error, Reader};
 use std::alloc::Global;
 
 // A lookup of an address that may wait for loads.
 pub(crate) trait AddressLookup<R: Reader> {
+    // What decides it.
+    type Decided: Drop;
+
     // What it finds.
     ghost Found: { Type 0 };
 
@@ -29,24 +33,30 @@ pub(crate) trait AddressLookup<R: Reader> {
     // The answer of a call that finds this.
     ghost answer: { Found → CallAnswer };
 
-    // Whether it waits for a load. What is read on the way is kept. The only error is out of
-    // memory.
-    fn waits(context: &mut Context<R>, probe: u64) -> Result<bool, Error>
-        ensures waits { TellsWaiting (lookup context.old.value probe) result }
+    // This decides a lookup, in these units.
+    ghost Decides: { List ResolvedUnit → Lookup Found → Self.Decided → Type 0 };
+
+    // What decides it, unless it waits for a load. What is read on the way is kept. The only error
+    // is out of memory.
+    fn settle(context: &mut Context<R>, probe: u64) -> Result<Option<Self::Decided>, Error>
+        ensures settles { DecidesUnlessWaiting (Decides context.new.units)
+            (lookup context.old.value probe) result }
         ensures first { WaitsForFirst (loads_in context.old.value probe)
             (lookup context.old.value probe) }
         ensures value { context.new.value ≡ context.old.value }
         ensures kept { KeepsAndReads (Covers context.old.value probe)
             context.old.units context.new.units };
 
-    // A copy of what it finds, where it waits for no load.
-    fn copy_found(alloc: Global, context: &mut Context<R>, probe: u64) -> Result<Answer, Error>
-        requires { IsDone (lookup context.old.value probe) }
-        ensures answer { CopiesOrNoMemory answer_of result
-            (copied_answer (answer_or_suspension answer (lookup context.old.value probe))) }
-        ensures value { context.new.value ≡ context.old.value }
-        ensures kept { KeepsAndReads (Covers context.old.value probe)
-            context.old.units context.new.units };
+    // A copy of what it finds, once it is decided.
+    fn copy_found(
+        alloc: Global,
+        context: &Context<R>,
+        decided: Self::Decided,
+    ) -> Result<Answer, Error>
+        requires { (meaning : Lookup Found) × Decides context.now.units meaning decided }
+        ensures { (meaning : Lookup Found) → Decides context.now.units meaning decided
+            → CopiesOrNoMemory answer_of result
+            (copied_answer (answer_or_suspension answer meaning)) };
 }
 
 // The lookup of the frames of an address.
@@ -55,9 +65,12 @@ pub(crate) struct FrameLookup;
 impl<R: Reader> AddressLookup<R> for FrameLookup {
     ghost use Rattle.std.specs.Prelude.{List, Result};
     ghost use Rattle.addr2line_context.specs.Error.{Error};
+    ghost use Rattle.addr2line_context.specs.FrameLoads.{DecidesFrames};
     ghost use Rattle.addr2line_context.specs.Frames.{Frame};
     ghost use Rattle.addr2line_context.specs.Histories.{frames_answer};
     ghost use Rattle.addr2line_context.specs.SettledLookups.{frames_in};
+
+    type Decided = DecidedFrames;
 
     ghost Found = { Result (List Frame) Error };
 
@@ -65,12 +78,18 @@ impl<R: Reader> AddressLookup<R> for FrameLookup {
 
     ghost answer = { frames_answer };
 
-    fn waits(context: &mut Context<R>, probe: u64) -> Result<bool, Error> {
-        frames_wait(context, probe)
+    ghost Decides = { DecidesFrames };
+
+    fn settle(context: &mut Context<R>, probe: u64) -> Result<Option<DecidedFrames>, Error> {
+        settle_frames(context, probe)
     }
 
-    fn copy_found(alloc: Global, context: &mut Context<R>, probe: u64) -> Result<Answer, Error> {
-        match find_decided_frames(context, probe) {
+    fn copy_found(
+        alloc: Global,
+        context: &Context<R>,
+        decided: DecidedFrames,
+    ) -> Result<Answer, Error> {
+        match lend_frames(context, decided) {
             Ok(frames) => answer_frames(alloc, frames),
             Err(error) => refuse(error),
         }
@@ -82,9 +101,12 @@ pub(crate) struct UnitLookup;
 
 impl<R: Reader> AddressLookup<R> for UnitLookup {
     ghost use Rattle.std.specs.Prelude.{Option};
+    ghost use Rattle.addr2line_context.specs.FrameLoads.{DecidesUnit};
     ghost use Rattle.addr2line_context.specs.Histories.{unit_answer};
     ghost use Rattle.addr2line_context.specs.SettledLookups.{unit_in};
     ghost use Rattle.addr2line_context.specs.UnitFacts.{UnitInFile};
+
+    type Decided = DecidedUnit;
 
     ghost Found = { Option UnitInFile };
 
@@ -92,14 +114,17 @@ impl<R: Reader> AddressLookup<R> for UnitLookup {
 
     ghost answer = { unit_answer };
 
-    fn waits(context: &mut Context<R>, probe: u64) -> Result<bool, Error> {
-        unit_waits(context, probe)
+    ghost Decides = { DecidesUnit };
+
+    fn settle(context: &mut Context<R>, probe: u64) -> Result<Option<DecidedUnit>, Error> {
+        settle_unit(context, probe)
     }
 
-    fn copy_found(_alloc: Global, context: &mut Context<R>, probe: u64) -> Result<Answer, Error> {
-        match find_decided_unit(context, probe)? {
-            Some(token) => Ok(Answer::Unit(copy_unit_if_any(functions_unit(context, token)))),
-            None => Ok(Answer::Unit(None)),
-        }
+    fn copy_found(
+        _alloc: Global,
+        context: &Context<R>,
+        decided: DecidedUnit,
+    ) -> Result<Answer, Error> {
+        Ok(Answer::Unit(copy_unit_if_any(lend_unit(context, decided))))
     }
 }

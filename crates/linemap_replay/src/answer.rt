@@ -1,19 +1,6 @@
 //! Answers that borrow nothing of a context.
 
-use addr2line_context::{DwLang, DwarfFileType, DwoId, Error};
-
-/// A place in the source.
-#[derive(Debug, PartialEq, Drop)]
-pub struct OwnedLocation {
-    /// The file's text, where the unit has that file.
-    pub file: Option<String>,
-    pub line: Option<u32>,
-    /// 0 stands for the left edge.
-    pub column: Option<u32>,
-    /// Whether a statement begins there.
-    pub statement: Option<bool>,
-    pub discriminator: Option<u64>,
-}
+use addr2line_context::{DwLang, DwarfFileType, DwoId, Error, OwnedLocation, OwnedStretch};
 
 /// The name of a function, and the language of its unit, where that is known.
 #[derive(Debug, PartialEq, Drop)]
@@ -30,14 +17,6 @@ pub struct OwnedFrame {
     pub dw_die_offset: Option<u64>,
     pub function: Option<OwnedName>,
     pub location: Option<OwnedLocation>,
-}
-
-/// Addresses with one place: the first, and how many they are.
-#[derive(Debug, PartialEq, Drop)]
-pub struct OwnedStretch {
-    pub address: u64,
-    pub length: u64,
-    pub location: OwnedLocation,
 }
 
 /// A unit: the kind of its file, and its offset in that file's `.debug_info`.

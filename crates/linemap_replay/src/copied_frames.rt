@@ -2,12 +2,11 @@
 
 ghost use Rattle.std.specs.Prelude.{◌≡◌, option_map, map};
 ghost use Rattle.addr2line_context.specs.BorrowedFrames.{frames_left};
-ghost use Rattle.linemap_replay.specs.Outcomes.{CopiesOrNoMemory};
+ghost use Rattle.addr2line_context.specs.OwnedPlaces.{CopiesOrNoMemory};
 ghost use Rattle.linemap_replay.specs.OwnedAnswers.{frames_copy, answer_of, name_of, frame_of, unit_of, copied_name, copied_frame, copied_unit};
 
 use crate::answer::{Answer, OwnedFrame, OwnedName, OwnedUnit};
-use crate::copies::copy_place;
-use addr2line_context::{Error, Frame, FrameIter, FunctionName, Reader, UnitRef};
+use addr2line_context::{Error, Frame, FrameIter, FunctionName, OwnedLocation, Reader, UnitRef};
 use gimli_core_base::ReaderOffset;
 use std::alloc::Global;
 
@@ -35,7 +34,7 @@ fn copy_frame<R: Reader>(alloc: Global, frame: &Frame<'_, R>) -> Result<OwnedFra
         None => None,
     };
     let function = copy_name(alloc, &frame.function)?;
-    let location = copy_place(alloc, frame.location)?;
+    let location = OwnedLocation::copy_if_any(alloc, frame.location)?;
     Ok(OwnedFrame {
         dw_die_offset,
         function,

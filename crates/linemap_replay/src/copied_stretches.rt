@@ -3,27 +3,14 @@
 ghost use Rattle.std.specs.Prelude.{◌≡◌, map};
 ghost use Rattle.addr2line_context.specs.Contexts.{stretches};
 ghost use Rattle.addr2line_context.specs.Histories.{stretches_answer};
-ghost use Rattle.addr2line_context.specs.RangeItems.{stretch_of_item};
+ghost use Rattle.addr2line_context.specs.OwnedPlaces.{CopiesOrNoMemory, stretch_of};
 ghost use Rattle.linemap_replay.specs.CallEffects.{KeepsAndReads};
-ghost use Rattle.linemap_replay.specs.Outcomes.{CopiesOrNoMemory};
-ghost use Rattle.linemap_replay.specs.OwnedAnswers.{stretch_of, answer_of, copied_answer};
+ghost use Rattle.linemap_replay.specs.OwnedAnswers.{answer_of, copied_answer};
 ghost use Rattle.linemap_replay.specs.StretchEnds.{EndsBy};
 
-use crate::answer::{Answer, OwnedStretch};
-use crate::copies::copy_location;
-use addr2line_context::{Context, Error, Location, Reader};
+use crate::answer::Answer;
+use addr2line_context::{Context, Error, OwnedStretch, Reader};
 use std::alloc::Global;
-
-fn copy_stretch(alloc: Global, item: (u64, u64, Location<'_>)) -> Result<OwnedStretch, Error>
-    ensures { CopiesOrNoMemory stretch_of result (stretch_of_item item.entry) }
-{
-    let (address, length, location) = item;
-    Ok(OwnedStretch {
-        address,
-        length,
-        location: copy_location(alloc, location)?,
-    })
-}
 
 // These stretches, and the refusal that ends them, unless it is out of memory.
 fn end_by(copies: Vec<OwnedStretch>, error: Error) -> Result<Answer, Error>
@@ -51,7 +38,7 @@ pub(crate) fn copy_stretches<R: Reader>(
     let mut copies = Vec::new(alloc);
     'item: loop {
         match stretches.next() {
-            Ok(Some(item)) => copies.push(copy_stretch(alloc, item)?)?,
+            Ok(Some(item)) => copies.push(OwnedStretch::copy(alloc, item)?)?,
             Ok(None) => return Ok(Answer::Range(copies, None)),
             Err(error) => return end_by(copies, error),
         }

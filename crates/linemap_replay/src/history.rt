@@ -2,8 +2,8 @@
 
 ghost use Rattle.std.specs.Prelude.{◌≡◌, OnErr, OnOk, map, option_map};
 ghost use Rattle.addr2line_context.specs.ContextNames.{naming_in};
+ghost use Rattle.addr2line_context.specs.OwnedPlaces.{CopiesOrNoMemory};
 ghost use Rattle.linemap_replay.specs.CallEffects.{KeepsAndReads, LeavesAnswers, LeavesPart, MayReadFunctions, SomeMayReadFunctions};
-ghost use Rattle.linemap_replay.specs.Outcomes.{CopiesOrNoMemory};
 ghost use Rattle.linemap_replay.specs.OwnedAnswers.{answer_of, copied_answer};
 ghost use Rattle.linemap_replay.specs.Replays.{AreRunOnce, context_call, call_on, state_of, token_of, replay_answers};
 

@@ -7,7 +7,6 @@ pub mod call;
 mod completions;
 mod copied_frames;
 mod copied_stretches;
-mod copies;
 mod history;
 mod loads;
 mod lookups;
@@ -15,7 +14,7 @@ mod parses;
 pub mod table_laws;
 mod tokens;
 
-pub use addr2line_context::{DwLang, DwarfFileType, DwoId, Error};
-pub use answer::{Answer, OwnedFrame, OwnedLocation, OwnedName, OwnedStretch, OwnedUnit};
+pub use addr2line_context::{DwLang, DwarfFileType, DwoId, Error, OwnedLocation, OwnedStretch};
+pub use answer::{Answer, OwnedFrame, OwnedName, OwnedUnit};
 pub use call::Call;
 pub use history::replay;

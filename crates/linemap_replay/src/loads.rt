@@ -2,10 +2,10 @@
 
 ghost use Rattle.std.specs.Prelude.{◌≡◌, ◌⊎◌, ℕ, IfErr, OnErr, OnOk, map, option_map, take};
 ghost use Rattle.addr2line_context.specs.Error.TheVariants.{Memory};
-ghost use Rattle.addr2line_context.specs.FrameLoads.{TellsWaiting};
+ghost use Rattle.addr2line_context.specs.FrameLoads.{DecidesUnlessWaiting};
 ghost use Rattle.addr2line_context.specs.SettledLookups.{after_answer};
+ghost use Rattle.addr2line_context.specs.OwnedPlaces.{CopiesOrNoMemory};
 ghost use Rattle.linemap_replay.specs.CallEffects.{Covers, KeepsAndReads};
-ghost use Rattle.linemap_replay.specs.Outcomes.{CopiesOrNoMemory};
 ghost use Rattle.linemap_replay.specs.Replays.{file_at, resume_with_all};
 
 use crate::address_lookup::AddressLookup;
@@ -48,14 +48,15 @@ fn answer_next<R: Reader>(
 }
 
 // Answers the loads that a lookup of an address waits for by the answers at these places, in turn,
-// and says whether it still waits.
+// and gives what decides it then, unless it still waits.
 pub(crate) fn resume_lookup<R: Reader, L: AddressLookup<R>>(
     context: &mut Context<R>,
     probe: u64,
     places: &[usize],
     answers: &[Option<Rc<Dwarf<R>>>],
-) -> Result<bool, Error>
-    ensures waits { TellsWaiting (L.lookup context.new.value probe) result }
+) -> Result<Option<L::Decided>, Error>
+    ensures settles { DecidesUnlessWaiting (L.Decides context.new.units)
+        (L.lookup context.new.value probe) result }
     ensures resumed { OnOk result (resume_with_all L.lookup context.old.value probe
         (map (file_at (map (option_map (λ f. f.value.file)) answers.now)) places.now)
         ≡ (L.lookup context.new.value probe, context.new.value.answers)) }
@@ -67,10 +68,10 @@ pub(crate) fn resume_lookup<R: Reader, L: AddressLookup<R>>(
         context.old.units context.new.units }
 {
     for place in places {
-        if !L::waits(context, probe)? {
-            return Ok(false);
+        match L::settle(context, probe)? {
+            Some(decided) => return Ok(Some(decided)),
+            None => answer_next(context, probe, answers, *place)?,
         }
-        answer_next(context, probe, answers, *place)?;
     }
-    L::waits(context, probe)
+    L::settle(context, probe)
 }

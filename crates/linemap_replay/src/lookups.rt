@@ -1,21 +1,29 @@
 //! Lookups, and calls that read all units, with copies of what they find.
 
 ghost use Rattle.std.specs.Prelude.{◌≡◌, ℕ, [], OnErr, OnOk, map, option_map, take};
+ghost use Rattle.addr2line_context.specs.BorrowedLocations.{location_value};
 ghost use Rattle.addr2line_context.specs.Histories.{find_location, find_location_range, answer_or_suspension};
+ghost use Rattle.addr2line_context.specs.OwnedPlaces.{CopiesOrNoMemory};
 ghost use Rattle.linemap_replay.specs.CallEffects.{Covers, KeepsAndReads};
-ghost use Rattle.linemap_replay.specs.Outcomes.{CopiesOrNoMemory};
-ghost use Rattle.linemap_replay.specs.OwnedAnswers.{answer_of, copied_answer};
+ghost use Rattle.linemap_replay.specs.OwnedAnswers.{answer_of, copied_answer, location_copy};
 ghost use Rattle.linemap_replay.specs.Replays.{file_at, call_on, resume_with_all};
 
 use crate::address_lookup::AddressLookup;
 use crate::answer::Answer;
 use crate::completions::refuse;
 use crate::copied_stretches::copy_stretches;
-use crate::copies::answer_place;
 use crate::loads::resume_lookup;
-use addr2line_context::{Context, Dwarf, Error, Reader};
+use addr2line_context::{Context, Dwarf, Error, Location, OwnedLocation, Reader};
 use std::alloc::Global;
 use std::rc::Rc;
+
+// A copy of a place, if there is one, as an answer.
+fn answer_place(alloc: Global, place: Option<Location<'_>>) -> Result<Answer, Error>
+    ensures { CopiesOrNoMemory answer_of result
+        (location_copy (option_map location_value place.entry)) }
+{
+    Ok(Answer::Location(OwnedLocation::copy_if_any(alloc, place)?))
+}
 
 // The place of an address.
 pub(crate) fn find_place<R: Reader>(
@@ -70,8 +78,8 @@ pub(crate) fn find_copied<R: Reader, L: AddressLookup<R>>(
     ensures kept { KeepsAndReads (Covers context.old.value probe)
         context.old.units context.new.units }
 {
-    if resume_lookup::<R, L>(context, probe, places, answers)? {
-        return Ok(Answer::Suspended);
+    match resume_lookup::<R, L>(context, probe, places, answers)? {
+        Some(decided) => L::copy_found(alloc, context, decided),
+        None => Ok(Answer::Suspended),
     }
-    L::copy_found(alloc, context, probe)
 }

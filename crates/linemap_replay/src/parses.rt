@@ -3,8 +3,8 @@
 ghost use Rattle.std.specs.Prelude.{◌≡◌, [], ⊤, OnErr, OnOk};
 ghost use Rattle.addr2line_context.specs.ContextNames.{naming_in};
 ghost use Rattle.addr2line_context.specs.Histories.{calls_or_refusal, functions_or_refusal, parse_lines, parse_functions, parse_inlined_functions};
+ghost use Rattle.addr2line_context.specs.OwnedPlaces.{CopiesOrNoMemory};
 ghost use Rattle.linemap_replay.specs.CallEffects.{KeepsAndReads, SomeUnitsParsed};
-ghost use Rattle.linemap_replay.specs.Outcomes.{CopiesOrNoMemory};
 ghost use Rattle.linemap_replay.specs.OwnedAnswers.{answer_of, copied_answer};
 ghost use Rattle.linemap_replay.specs.Replays.{call_on};
 

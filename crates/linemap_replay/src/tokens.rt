@@ -2,8 +2,8 @@
 
 ghost use Rattle.std.specs.Prelude.{◌≡◌, ◌⊎◌, [], OnErr, OnOk, map, option_map, slice_get};
 ghost use Rattle.addr2line_context.specs.Histories.{preload_units, answer_token};
+ghost use Rattle.addr2line_context.specs.OwnedPlaces.{CopiesOrNoMemory};
 ghost use Rattle.linemap_replay.specs.CallEffects.{KeepsAndReads};
-ghost use Rattle.linemap_replay.specs.Outcomes.{CopiesOrNoMemory};
 ghost use Rattle.linemap_replay.specs.OwnedAnswers.{dwo_ids, answer_of, copied_answer};
 ghost use Rattle.linemap_replay.specs.Replays.{call_on, token_of};
 

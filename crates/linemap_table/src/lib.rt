@@ -58,10 +58,10 @@ impl Table {
         Table::check(units)
     }
 
-    /// Checks units; a refusal drops them. It takes no memory, and calls may be nested at any depth:
-    /// past 50 the first rule that is tried refuses them. It makes a pass or two for each rule if
-    /// the ranges of units, of a unit's functions and sequences, and of calls side by side ascend or
-    /// descend, whether they overlap or not; else it may try each pair of them.
+    /// Checks units; a refusal drops them. It takes no memory, and calls may be nested at any
+    /// depth: past 50 the first rule that is tried refuses them. It makes a pass or two for each
+    /// rule if the ranges of units, of a unit's functions and sequences, and of calls side by side
+    /// ascend or descend, whether they overlap or not; else it may try each pair of them.
     pub fn check(units: Vec<TableUnit>) -> Result<Table, TableError>
         ensures { Answers result (checked_units (map unit_part units.items)) }
     {

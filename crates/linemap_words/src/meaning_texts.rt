@@ -283,7 +283,7 @@ What to do: split the table, and emit a file for each part.
 pub const LOADING: [&str; 8] = [
     "L1: out of memory, for the file.
 Usual cause: a limit on memory (ulimit -v, a container), or a very large file.
-What to do: allow more memory; the file is read whole.
+What to do: allow more memory; sections of debug information and of symbols are read whole.
 ",
     "L2: the file can't be read.
 Usual cause: a path that isn't there, a folder, or a file that may not be read. It may be the

@@ -26,6 +26,8 @@ pub enum ImageQuestion {
     SplitFile,
     /// How many prefixes of the image can be loaded.
     Prefixes,
+    /// How many prefixes of it are loaded where the file becomes that short while it is read.
+    Shortened,
 }
 
 /// A question, and its line.
@@ -141,6 +143,7 @@ fn question_of(line: &str) -> Result<ImageQuestion, Mistake> {
         Some("split_file") => Ok(ImageQuestion::SplitFile),
         Some("base") => Ok(ImageQuestion::Base),
         Some("prefixes") => Ok(ImageQuestion::Prefixes),
+        Some("shortened") => Ok(ImageQuestion::Shortened),
         Some(word) if word.starts_with('#') => Ok(ImageQuestion::Heading),
         Some(word) => question_of_address(word, &mut words),
         None => Err(Mistake::Word),

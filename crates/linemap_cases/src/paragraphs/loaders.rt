@@ -5,7 +5,7 @@ use super::{frames, places, sources};
 use crate::answer::Answer;
 use crate::tables::add_stream;
 use addr2line_loader::Loader;
-use addr2line_split::{FileSource, LoadError, SplitSource, Symbol};
+use addr2line_split::{FileSource, LoadError, MemoryFile, SplitSource, Symbol, read_needed};
 use bytes::Bytes;
 use std::alloc::Global;
 use std::rt::Files;
@@ -51,7 +51,22 @@ fn loader_in_memory<R: Files + AllocGlobal>(rt: &R, case: &ImageCase) -> Result<
             let supplement = Bytes::from_vec(sources::read(rt, path)?)?;
             Loader::from_bytes(rt.alloc(), image, Some(supplement))
         }
-        None => Loader::from_bytes(rt.alloc(), image, None),
+        None => {
+            let len = image.len() as u64;
+            load_by_parts(rt.alloc(), image, len)
+        }
+    }
+}
+
+// Loads the parts of an image of a length that a loader needs, or else all of it.
+fn load_by_parts(alloc: Global, image: Bytes, len: u64) -> Result<Loader, LoadError> {
+    let mut source = MemoryFile { bytes: image };
+    match read_needed(alloc, &mut source, len)? {
+        Some(parts) => Loader::from_parts(alloc, parts, None),
+        None => {
+            let MemoryFile { bytes } = source;
+            Loader::from_bytes(alloc, bytes, None)
+        }
     }
 }
 
@@ -86,6 +101,7 @@ fn ask_all<R: Files + AllocGlobal, S: SplitSource>(
         match asked.question {
             ImageQuestion::Heading => {}
             ImageQuestion::Prefixes => prefixes(rt, case, out),
+            ImageQuestion::Shortened => shortened(rt, case, out),
             _ => answer_line(loader, asked, source, out),
         }
         out.text("\n");
@@ -232,4 +248,42 @@ fn is_loaded(alloc: Global, image: &[u8]) -> bool {
 fn load(alloc: Global, image: &[u8]) -> Result<Loader, LoadError> {
     let image = Bytes::copy_from_slice(alloc, image)?;
     Loader::from_bytes(alloc, image, None)
+}
+
+// ---- files that become shorter
+
+// How many prefixes of an image are loaded by parts where the file becomes that short once its
+// length is known, and how many there are.
+fn shortened<R: Files + AllocGlobal>(rt: &R, case: &ImageCase, out: &mut Answer) {
+    out.text(": ");
+    match image_of(rt, case) {
+        Ok(image) => {
+            out.value(&loaded_shortened(rt.alloc(), &image));
+            out.text(" of ");
+            out.value(&image.len());
+        }
+        Err(error) => out.refuse_image(error),
+    }
+}
+
+fn loaded_shortened(alloc: Global, image: &[u8]) -> u32 {
+    let mut count: u32 = 0;
+    for len in 0..image.len() {
+        if is_loaded_shortened(alloc, &image[..len], image.len() as u64) {
+            count = count.wrapping_add(1);
+        }
+    }
+    count
+}
+
+fn is_loaded_shortened(alloc: Global, left: &[u8], len: u64) -> bool {
+    match load_shortened(alloc, left, len) {
+        Err(LoadError::Memory) => load_shortened(alloc, left, len).is_ok(),
+        loaded => loaded.is_ok(),
+    }
+}
+
+fn load_shortened(alloc: Global, left: &[u8], len: u64) -> Result<Loader, LoadError> {
+    let left = Bytes::copy_from_slice(alloc, left)?;
+    load_by_parts(alloc, left, len)
 }

@@ -7,7 +7,7 @@ use super::streams::{CutReader, CutWriter, Fault, cut_of};
 use crate::answer::Answer;
 use bytes::Bytes;
 use linemap_image::{Format, Target};
-use linemap_lookup::{MapSource, Options, run};
+use linemap_lookup::{FileParts, MapSource, Options, run};
 use std::alloc::{AllocError, Global};
 use std::io::{BufReader, ErrorKind};
 
@@ -160,9 +160,18 @@ fn change_in(value: &str) -> Option<Change> {
 // ---- the run
 
 fn answer_image(image: Vec<u8>, request: Request, out: &mut Answer) {
-    let Ok(image) = Bytes::from_vec(image) else {
-        return out.refuse_memory();
-    };
+    match whole(out.alloc, image) {
+        Ok(image) => answer_run(image, request, out),
+        Err(_) => out.refuse_memory(),
+    }
+}
+
+// An image, all of which is in memory.
+fn whole(alloc: Global, image: Vec<u8>) -> Result<FileParts, AllocError> {
+    FileParts::whole(alloc, Bytes::from_vec(image)?)
+}
+
+fn answer_run(image: FileParts, request: Request, out: &mut Answer) {
     let Request {
         options,
         input,

@@ -4,10 +4,9 @@ use super::emission::sections_of;
 use super::places;
 use super::question::{Probe, Series};
 use crate::answer::Answer;
-use addr2line_context::{EndianSlice, Location, RunTimeEndian};
+use addr2line_context::{EndianSlice, RunTimeEndian};
 use linemap_replay::{
-    Answer as CallAnswer, Call, DwarfFileType, Error, OwnedFrame, OwnedLocation, OwnedStretch,
-    OwnedUnit, replay,
+    Answer as CallAnswer, Call, DwarfFileType, Error, OwnedFrame, OwnedStretch, OwnedUnit, replay,
 };
 use linemap_text::{Context, Sections, dwarf_of};
 use std::alloc::{AllocError, Global};
@@ -125,7 +124,7 @@ fn add_answers(answers: &[CallAnswer], out: &mut Answer) {
 
 fn add_answer(answer: &CallAnswer, out: &mut Answer) {
     match answer {
-        CallAnswer::Location(Some(location)) => places::place(&location_of(location), out),
+        CallAnswer::Location(Some(location)) => places::place(&location.lend(), out),
         CallAnswer::Location(None) => out.text("no place"),
         CallAnswer::Frames(frames) => add_frames(frames, out),
         CallAnswer::Range(stretches, refusal) => {
@@ -181,7 +180,7 @@ fn add_frame(frame: &OwnedFrame, out: &mut Answer) {
         None => "?",
     };
     match &frame.location {
-        Some(location) => places::frame(name, Some(&location_of(location)), out),
+        Some(location) => places::frame(name, Some(&location.lend()), out),
         None => places::frame(name, None, out),
     }
 }
@@ -201,16 +200,6 @@ fn add_stretch(stretch: &OwnedStretch, out: &mut Answer) {
     out.text("+");
     out.hex(stretch.length);
     out.text(" ");
-    places::place(&location_of(&stretch.location), out);
+    places::place(&stretch.location.lend(), out);
     out.text("]");
-}
-
-fn location_of(location: &OwnedLocation) -> Location<'_> {
-    Location {
-        file: location.file.as_deref(),
-        line: location.line,
-        column: location.column,
-        statement: location.statement,
-        discriminator: location.discriminator,
-    }
 }

@@ -1,7 +1,7 @@
 use Rattle.std.proofs.Common.{◌≡◌, ap, ◌∙◌, subst, List, slice_get, option_map, arith}
+use Rattle.addr2line_context.specs.OwnedPlaces.{stretch_of}
+use Rattle.addr2line_context.specs.declared.owned_places.OwnedStretch.{OwnedStretch}
 use Rattle.addr2line_c.specs.COutputs.{range_out, range_written}
-use Rattle.addr2line_c.specs.Copies.{stretch_of}
-use Rattle.addr2line_c.specs.declared.copies.OwnedStretch.{OwnedStretch}
 use Rattle.addr2line_c.proofs.KeptStretches.{gives_kept, not_empty}
 use Rattle.addr2line_c.proofs.places.a2l_next_ranges.Goals as goal
 

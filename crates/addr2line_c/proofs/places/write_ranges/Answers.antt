@@ -1,6 +1,6 @@
 use Rattle.std.proofs.Common.{Some, ap, sym, ◌∙◌, slice_get, option_map, arith}
 use Rattle.std.proofs.lemmas.Option.{slice_get-get_or}
-use Rattle.addr2line_c.specs.Copies.{stretch_of}
+use Rattle.addr2line_context.specs.OwnedPlaces.{stretch_of}
 use Rattle.addr2line_c.specs.COutputs.{range_out, range_written}
 use Rattle.addr2line_c.proofs.WrittenSlices.{write_next}
 use Rattle.addr2line_c.proofs.places.write_ranges.Goals as goal

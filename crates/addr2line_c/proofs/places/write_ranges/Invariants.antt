@@ -1,7 +1,7 @@
 -- The stretches before `i` are written, and what was there from `i` on is as it was.
 use Rattle.std.proofs.Common.{◌≡◌, ◌<◌, ◌≤◌, ℕ, length, slice_get, option_map}
+use Rattle.addr2line_context.specs.OwnedPlaces.{stretch_of}
 use Rattle.addr2line_c.specs.COutputs.{range_out, range_written}
-use Rattle.addr2line_c.specs.Copies.{stretch_of}
 use Rattle.addr2line_c.proofs.places.write_ranges.Given as goal
 
 abbrev pub invariant-stretch : goal.invariant-stretch

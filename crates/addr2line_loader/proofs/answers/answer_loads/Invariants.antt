@@ -7,11 +7,11 @@ use Rattle.addr2line_loader.specs.ResolvedFiles.{ReadsForFrames}
 use Rattle.addr2line_loader.proofs.AnsweredLoads.{AnsweredTo}
 use Rattle.addr2line_loader.proofs.answers.answer_loads.Given as goal
 
-abbrev pub decreases-loop-context : goal.decreases-loop-context
-decreases-loop-context g l = length (loads_in l.context.value l.probe)
+abbrev pub decreases-loop-decided : goal.decreases-loop-decided
+decreases-loop-decided g l = length (loads_in l.context.value l.probe)
 
-abbrev pub invariant-loop-context : goal.invariant-loop-context
-invariant-loop-context g l =
+abbrev pub invariant-loop-decided : goal.invariant-loop-decided
+invariant-loop-decided g l =
     (l.context.value.plain ≡ l.fn.context.value.plain)
     × AnsweredTo g.S.SplitSource.answers l.probe l.fn.context.value.plain
     (record { answers = l.fn.context.value.answers; source = l.fn.source })

@@ -7,9 +7,9 @@ pub returns-in-Some-clause-stretch : goal.returns-in-Some-clause-stretch
 returns-in-Some-clause-stretch g c =
     let a = c.args in
     next_of_lines a.low a.high a.rows.range (map plain_unit a.units.now) a.rows.cursor c.in-Some.cursor
-    c.in-Ok-Some.lines.now.lines c.in-Some.stretch c.unit_stretch.result c.max-low.result c.min-high.result c.max-low.ensures
-    c.min-high.ensures (c.in-Ok-Some.ensures.lines ∙ ap ok_lines c.in-Ok-Some.field-0-is) c.unit_stretch.ensures
-    c.in-Some.ensures
+    c.in-Ok-Some.lines.now.lines c.in-Some.stretch c.unit_stretch.result c.max-low.result c.min-high.result
+    c.max-low.ensures c.min-high.ensures (c.in-Ok-Some.ensures.lines ∙ ap ok_lines c.in-Ok-Some.field-0-is)
+    c.unit_stretch.ensures c.in-Some.ensures
 
 pub returns-in-None-clause-stretch : goal.returns-in-None-clause-stretch
 returns-in-None-clause-stretch g c =

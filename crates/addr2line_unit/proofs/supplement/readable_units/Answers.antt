@@ -25,7 +25,7 @@ loop-headers-preserved g c =
     let limit = g.R.Offset.ReaderOffset.limit in
     let choose = λ (h : DebugUnit). readable_facts (unit_facts c.args.dwarf.now.file h) in
     read_more choose ok_of (units_to_come limit c.loop-headers.headers) (units_to_come limit c.next.new.self)
-    c.in_ok-header.field-0 c.in-Some.header c.in_ok-unit.unit c.loop-headers.units.items c.push_unit.new.units.items
+    c.in_ok-header.field-0 c.in-Some.header c.in_ok-unit.unit c.loop-headers.units.items c.push_if_any.new.items.items
     c.in-Some.is c.in_ok-header.ensures.order
-    (if_any_ok (choose c.in-Some.header) ∙ c.in_ok-unit.ensures) c.in_ok-push_unit.ensures.ok
+    (if_any_ok (choose c.in-Some.header) ∙ c.in_ok-unit.ensures) c.in_ok-push_if_any.ensures.ok
     (readable_units c.args.dwarf.now.file) c.loop-headers.invariant

@@ -24,6 +24,14 @@ after_none v = ap (at_place v.is_big v.bytes) (add-zero v.first)
 abbrev ok_read : Option Attribute → View → Result (Option Attribute × View) Error
 ok_read o v = Ok (o, v)
 
+-- the attribute that was pushed, where there is one
+pushed_item : {o : Option Pushed} {pushed : Pushed} (v place : View) → o ≡ Some pushed
+    → attribute v ≡ ok_read (option_map (λ (p : Pushed). attribute_view p.attribute) o) place
+    → attribute v ≡ ok_read (Some (attribute_view pushed.attribute)) place
+pushed_item v place is reads =
+    reads
+    ∙ ap (λ (o : Option Pushed). ok_read (option_map (λ (p : Pushed). attribute_view p.attribute) o) place) is
+
 pub pushing-init : goal.pushing-init
 pushing-init g c =
     let none : added_view c.args.found.now.items c.args.found.now.items ≡ [] =
@@ -32,7 +40,8 @@ pushing-init g c =
       extends = extends_none c.args.found.now.items;
       listing =
           ap (λ (xs : List Attribute). prepend xs (listing_in bytes_left attribute c.range_from-place.result)) none
-          ∙ ap (λ (v : View). listing_in bytes_left attribute v) (c.range_from-place.ensures ∙ after_none c.args.input.now);
+          ∙ ap (λ (v : View). listing_in bytes_left attribute v)
+          (c.range_from-place.ensures ∙ after_none c.args.input.now);
       fits = c.none-facts.ensures.fits;
       knows = subst (KnowsRead c.none-facts.result) (sym none) c.none-facts.ensures.knows;
     }
@@ -44,9 +53,7 @@ pushing-preserved g c =
     let items : c.push_next.new.found.items ≡ c.pushing.found.items ++ a ∷ [] = c.in_ok-pushed.ensures.items
     ∙ ap (λ (o : Option Pushed). c.pushing.found.items ++ option_to_list (option_map (λ (p : Pushed). p.attribute) o))
     c.in-Some.is in
-    let item : attribute c.pushing.place ≡ ok_read (Some (attribute_view a)) c.push_next.new.place = c.in_ok-pushed.ensures.value
-    ∙ ap (λ (o : Option Pushed). ok_read (option_map (λ (p : Pushed). attribute_view p.attribute) o) c.push_next.new.place)
-    c.in-Some.is in
+    let item = pushed_item c.pushing.place c.push_next.new.place c.in-Some.is c.in_ok-pushed.ensures.value in
     let knows = subst (λ (o : Option Pushed). IfSome o (λ p. FitsInBytes p.facts × ((before : List Attribute)
     → KnowsRead c.pushing.facts before → KnowsRead p.facts (before ++ attribute_view p.attribute ∷ []))))
     c.in-Some.is c.in_ok-pushed.ensures.knows in
@@ -66,10 +73,8 @@ pushing-preserved g c =
 
 pub pushing-smaller : goal.pushing-smaller
 pushing-smaller g c =
-    item_smaller attributes-shrink c.pushing.place
-    (attribute_view c.in-Some.pushed.attribute) c.push_next.new.place (c.in_ok-pushed.ensures.value
-    ∙ ap (λ (o : Option Pushed). ok_read (option_map (λ (p : Pushed). attribute_view p.attribute) o) c.push_next.new.place)
-    c.in-Some.is)
+    item_smaller attributes-shrink c.pushing.place (attribute_view c.in-Some.pushed.attribute) c.push_next.new.place
+    (pushed_item c.pushing.place c.push_next.new.place c.in-Some.is c.in_ok-pushed.ensures.value)
 
 abbrev ok_attributes : View → List Attribute → Result (List Attribute × View) Error
 ok_attributes v xs = Ok (xs, v)
@@ -82,8 +87,8 @@ returns-clause-value g c =
     let same = items ∙ append-nil c.pushing.found.items in
     all_of_end attributes-shrink (added_view c.args.found.now.items c.pushing.found.items) _ _ _ was.listing
     (search rules)
-    ∙ ap (λ (xs : List AttributeSpecification). ok_attributes c.push_next.new.place (added_view c.args.found.now.items xs))
-    (sym same)
+    ∙ ap (λ (xs : List AttributeSpecification).
+    ok_attributes c.push_next.new.place (added_view c.args.found.now.items xs)) (sym same)
 
 pub returns-clause-extends : goal.returns-clause-extends
 returns-clause-extends g c =

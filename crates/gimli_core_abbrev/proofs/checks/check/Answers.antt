@@ -17,13 +17,15 @@ pub returns-in_err-skip_in_order-clause-value : goal.returns-in_err-skip_in_orde
 returns-in_err-skip_in_order-clause-value g c =
     returns_refused _ c.from_residual.result _ _ c.from_residual.ensures.1
     (λ ne. ap reads (sym c.borrowed-place.ensures)
-    ∙ checked_refused (length c.slice.result.now) c.borrowed-place.result c.skip_in_order.new.input _ c.in_err-skip_in_order.ensures)
+    ∙ checked_refused (length c.slice.result.now) c.borrowed-place.result c.skip_in_order.new.input _
+    c.in_err-skip_in_order.ensures)
 
 pub returns-in_err-skip_in_order-clause-free : goal.returns-in_err-skip_in_order-clause-free
 returns-in_err-skip_in_order-clause-free g c =
     λ ordered. exactly_refused _ c.from_residual.result _ _ c.from_residual.ensures.1
     (ap reads (sym c.borrowed-place.ensures)
-    ∙ checked_refused (length c.slice.result.now) c.borrowed-place.result c.skip_in_order.new.input _ c.in_err-skip_in_order.ensures)
+    ∙ checked_refused (length c.slice.result.now) c.borrowed-place.result c.skip_in_order.new.input _
+    c.in_err-skip_in_order.ensures)
 
 pub returns-in-Ended-clause-value : goal.returns-in-Ended-clause-value
 returns-in-Ended-clause-value g c =
@@ -55,4 +57,5 @@ pub returns-in_err-_table-in-Unordered-clause-free : goal.returns-in_err-_table-
 returns-in_err-_table-in-Unordered-clause-free g c =
     λ ordered. absurd (checked_unordered (length c.slice.result.now) c.borrowed-place.result _ _ c.in-Unordered.is
     c.in_ok-skip_in_order.ensures
-    (subst (λ (v : View). IsInOrder (listing_in bytes_left declaration v).items) (sym c.borrowed-place.ensures) ordered))
+    (subst (λ (v : View). IsInOrder (listing_in bytes_left declaration v).items) (sym c.borrowed-place.ensures)
+    ordered))

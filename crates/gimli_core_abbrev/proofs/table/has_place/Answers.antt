@@ -12,4 +12,5 @@ returns-then-in_order-code c =
 
 pub returns-else-in_order-code : goal.returns-else-in_order-code
 returns-else-in_order-code c =
-    sym (place_below c.args.in_order c.args.code (get nat_cmp c.args.places.now) (omega (arith, c.if-in_order-code.false)))
+    sym (place_below c.args.in_order c.args.code (get nat_cmp c.args.places.now)
+    (omega (arith, c.if-in_order-code.false)))

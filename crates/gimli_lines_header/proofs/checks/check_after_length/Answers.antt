@@ -8,8 +8,8 @@ use Rattle.gimli_lines_header.proofs.checks.check_after_length.Goals as goal
 pub returns : goal.returns
 returns g c = λ offset unit_length directory name.
     after_length_checked g.O.ReaderOffset.limit offset unit_length c.args.address_size directory name c.args.format
-    c.args.program _ _ _ _ _ c.into_u64.result _ c.into_u64.ensures.value c.in_ok-encoding.ensures.value c.in_ok-header_length.ensures c.in_ok-header.ensures _ _
-    c.check_fields.ensures
+    c.args.program _ _ _ _ _ c.into_u64.result _ c.into_u64.ensures.value c.in_ok-encoding.ensures.value
+    c.in_ok-header_length.ensures c.in_ok-header.ensures _ _ c.check_fields.ensures
 
 pub returns-in_err-encoding : goal.returns-in_err-encoding
 unfolding header_in

@@ -14,7 +14,8 @@ returns g c = λ directory name bounds same.
 pub returns-in_err-parse_parameters : goal.returns-in_err-parse_parameters
 returns-in_err-parse_parameters g c = λ directory name bounds same.
     returns_fault _ c.from_residual.result _ _ c.from_residual.ensures.1
-    (fields_checked _ directory name bounds c.args.encoding same _ ∙ stops _ _ _ c.in_err-parse_parameters.ensures.value)
+    (fields_checked _ directory name bounds c.args.encoding same _
+    ∙ stops _ _ _ c.in_err-parse_parameters.ensures.value)
 
 pub returns-in_err-check_opcodes : goal.returns-in_err-check_opcodes
 returns-in_err-check_opcodes g c = λ directory name bounds same.

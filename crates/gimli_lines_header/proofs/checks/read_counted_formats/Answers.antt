@@ -9,7 +9,8 @@ use Rattle.gimli_lines_header.proofs.checks.read_counted_formats.Goals as goal
 
 pub loop-place-preserved : goal.loop-place-preserved
 loop-place-preserved g c =
-    let large : 255 ≤ length c.loop-place.room = subst (λ (n : ℕ). 255 ≤ n) (sym c.loop-place.invariant.0) c.requires in (
+    let large : 255 ≤ length c.loop-place.room =
+    subst (λ (n : ℕ). 255 ≤ n) (sym c.loop-place.invariant.0) c.requires in (
       length-set c.loop-place.room c.from.result _ ∙ c.loop-place.invariant.0,
       count_stored c.args.count c.loop-place.place c.from.result c.loop-place.room _ _ _ _ (omega arith) (omega arith)
           (omega arith) c.in_ok-room.ensures c.loop-place.invariant.1,
@@ -26,5 +27,5 @@ returns-clause-value g c =
     let over : c.loop-place.place ≡ c.args.count = omega arith in
     subst (λ (n : ℕ). times c.args.count entry_format (g.I.Reader.view c.args.input.now)
     ≡ Ok (take n c.loop-place.room, g.I.Reader.view c.loop-place.input)) over
-    (count_end entry_format c.args.count c.loop-place.place (take c.loop-place.place c.loop-place.room) _ _ (omega arith)
-    c.loop-place.invariant.1)
+    (count_end entry_format c.args.count c.loop-place.place (take c.loop-place.place c.loop-place.room) _ _
+    (omega arith) c.loop-place.invariant.1)

@@ -6,8 +6,8 @@ use Rattle.gimli_lines_rows.proofs.steps.step_at_once.Goals as goal
 
 pub returns-then-not-gives_row : goal.returns-then-not-gives_row
 returns-then-not-gives_row g c =
-    steps_without_row g.R.Offset.ReaderOffset.limit c.args.header.now c.args.rules.now c.args.registers.now c.args.row.now
-    c.args.bytes.now c.run_next.new.bytes c.run_next.new.registers c.in_ok-gives_row.gives_row c.requires
+    steps_without_row g.R.Offset.ReaderOffset.limit c.args.header.now c.args.rules.now c.args.registers.now
+    c.args.row.now c.args.bytes.now c.run_next.new.bytes c.run_next.new.registers c.in_ok-gives_row.gives_row c.requires
     c.if-not-gives_row.true c.in_ok-gives_row.ensures
 
 pub returns : goal.returns

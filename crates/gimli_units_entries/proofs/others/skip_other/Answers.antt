@@ -32,7 +32,8 @@ pub returns-in_default-get : goal.returns-in_default-get
 returns-in_default-get g c = λ end_offset.
     let w = walk_at c.args.encoding c.args.table.now end_offset c.args.depth (g.R.Reader.view c.args.place.now) in
     let nonzero : eqb c.in-Ok.code 0 ≡ false = grind (arith, nat_tests) in
-    unknown_code (is_tag_of c.args.tags.now) w c.in-Ok.code _ c.in-Ok.ensures.value nonzero (sym c.in_default-get.ensures)
+    unknown_code (is_tag_of c.args.tags.now) w c.in-Ok.code _ c.in-Ok.ensures.value nonzero
+    (sym c.in_default-get.ensures)
 
 pub returns-then-is_one_of : goal.returns-then-is_one_of
 returns-then-is_one_of g c = λ end_offset.

@@ -8,7 +8,8 @@ use Rattle.gimli_units_forms.proofs.skipping.skip_bytes_and_values.Given as goal
 abbrev pub invariant-loop-left : goal.invariant-loop-left
 invariant-loop-left g l = record {
   same : skip_bytes_and_values l.run l.encoding (map attribute_view l.left) (g.R.Reader.view l.place)
-      ≡ skip_bytes_and_values l.count l.encoding (map attribute_view l.specifications) (g.R.Reader.view l.initial.place);
+      ≡ skip_bytes_and_values l.count l.encoding (map attribute_view l.specifications)
+      (g.R.Reader.view l.initial.place);
   looks : BeginsWithLook l.encoding (map attribute_view l.left);
 }
 

@@ -18,8 +18,8 @@ item-preserved g c =
           (by_looks (λ n. ⊥) 0 _ _ moved.after.cost (reads_none (λ n. ⊥) _ _ moved.after.functions));
       copied =
           one_more_stretch stretch_of_item _ (left_in old.context.now old.walk) (left_in new.context.now new.walk)
-          c.item.copies.items c.push.new.self.items c.in_ok-copy_stretch-in-Ok-Some.field-0
+          c.item.copies.items c.push.new.self.items c.in_ok-copy-in-Ok-Some.field-0
           c.in-Ok-Some.item c.next.result
-          (c.in-Ok-Some.is ∙ ap Ok c.in-Ok-Some.field-0-is) moved.item c.in_ok-copy_stretch-in-Ok-Some.ensures
+          (c.in-Ok-Some.is ∙ ap Ok c.in-Ok-Some.field-0-is) moved.item c.in_ok-copy-in-Ok-Some.ensures
           c.in_ok-push-in-Ok-Some.ensures.items c.item.invariant.copied;
     }

@@ -3,8 +3,8 @@ use Rattle.std.proofs.Common.{◌≡◌, length, map}
 use Rattle.addr2line_context.specs.Contexts.{stretches}
 use Rattle.addr2line_context.specs.LocationRanges.{left_in}
 use Rattle.addr2line_context.specs.Repetition.{prepend}
+use Rattle.addr2line_context.specs.OwnedPlaces.{stretch_of}
 use Rattle.linemap_replay.specs.CallEffects.{KeepsAndReads}
-use Rattle.linemap_replay.specs.OwnedAnswers.{stretch_of}
 use Rattle.linemap_replay.proofs.copied_stretches.copy_stretches.Given as goal
 
 abbrev pub invariant-item : goal.invariant-item

@@ -1,6 +1,6 @@
 use Rattle.std.proofs.Common.{refl, subst}
 use Rattle.addr2line_context.specs.Contexts.{location}
-use Rattle.linemap_replay.specs.Outcomes.{CopiesOrNoMemory}
+use Rattle.addr2line_context.specs.OwnedPlaces.{CopiesOrNoMemory}
 use Rattle.linemap_replay.specs.OwnedAnswers.{location_copy, answer_of}
 use Rattle.linemap_replay.proofs.CopiedAnswers.{found_copy, refused_copy}
 use Rattle.linemap_replay.proofs.lookups.find_place.Goals as goal

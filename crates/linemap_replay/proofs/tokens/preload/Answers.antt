@@ -1,7 +1,7 @@
 use Rattle.std.proofs.Common.{ap, ◌∙◌, map, subst}
 use Rattle.std.proofs.lemmas.Result.{on_ok_weaker}
 use Rattle.addr2line_context.specs.SettledLookups.{loads_in}
-use Rattle.linemap_replay.specs.Outcomes.{CopiesOrNoMemory}
+use Rattle.addr2line_context.specs.OwnedPlaces.{CopiesOrNoMemory}
 use Rattle.linemap_replay.specs.OwnedAnswers.{answer_of}
 use Rattle.linemap_replay.specs.Replays.{token_of}
 use Rattle.linemap_replay.proofs.AnsweredTokens.{never_refused, never_ok, preload_copy, preload_tokens}

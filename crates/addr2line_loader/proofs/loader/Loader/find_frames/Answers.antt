@@ -1,13 +1,12 @@
-use Rattle.std.proofs.Common.{refl, subst, sym}
+use Rattle.std.proofs.Common.{refl}
 use Rattle.std.proofs.lemmas.Result.{err_from_is_err_and}
 use Rattle.addr2line_context.specs.BorrowedFrames.{frames_left}
-use Rattle.addr2line_context.specs.FrameLoads.{IsDone}
-use Rattle.addr2line_loader.specs.SourceAnswers.{frames_by_answers}
+use Rattle.addr2line_context.proofs.FoundRows.{found_row}
 use Rattle.addr2line_loader.proofs.FoundFrames.{finds_frames, stops_frames}
 use Rattle.addr2line_loader.proofs.loader.Loader.find_frames.Goals as goal
 
-pub returns-in_err-answer_loads : goal.returns-in_err-answer_loads
-returns-in_err-answer_loads g c =
+pub returns-in_err-decided : goal.returns-in_err-decided
+returns-in_err-decided g c =
     let p = err_from_is_err_and c.from_residual.result c.from_residual.ensures.1 in (
       (
         refl,
@@ -21,9 +20,9 @@ returns-in_err-answer_loads g c =
               answers = c.self.inside.context.value.answers;
             })
             c.self.inside.context.units c.answer_loads.new.context c.answer_loads.new.source
-            c.answer_loads.ensures.plain
-            c.in_err-answer_loads.field-0.0 c.in_err-answer_loads.ensures.loads c.answer_loads.ensures.units
-            c.answer_loads.ensures.alone c.args.self.now c.self.view_is),
+            c.answer_loads.ensures.plain c.answer_loads.ensures.units
+            c.answer_loads.ensures.alone c.in_err-decided.field-0.0 c.in_err-decided.ensures.loads
+            c.args.self.now c.self.view_is),
       ),
       record { after = tt },
     )
@@ -41,16 +40,13 @@ returns g c = (
           context = c.self.inside.context.value.plain;
           answers = c.self.inside.context.value.answers;
         })
-        c.self.inside.context.units c.answer_loads.new.context c.answer_loads.new.source c.answer_loads.ensures.plain
-        c.in_ok-answer_loads.ensures.loads c.answer_loads.ensures.units c.answer_loads.ensures.alone
-        c.find_decided_frames.follows.lender-at-none _ c.find_decided_frames.follows.holds-at-none
-        c.find_decided_frames.ensures.found c.args.self.now
-        c.self.view_is,
+        c.self.inside.context.units c.answer_loads.new.context c.answer_loads.new.source
+        c.answer_loads.ensures.plain c.answer_loads.ensures.units
+        c.answer_loads.ensures.alone c.in_ok-decided.decided c.in_ok-decided.ensures.loads
+        (c.in_ok-decided.ensures.asked (found_row _)) c.lend_frames.result c.lend_frames.ensures c.args.self.now c.self.view_is,
   ),
   record { after = tt },
 )
 
-pub find_decided_frames-requires : goal.find_decided_frames-requires
-find_decided_frames-requires g c =
-    subst (λ p. IsDone (frames_by_answers p c.args.probe c.answer_loads.new.context.value.answers))
-    (sym c.answer_loads.ensures.plain) c.in_ok-answer_loads.ensures.loads.done
+pub lend_frames-requires : goal.lend_frames-requires
+lend_frames-requires g c = (_, c.in_ok-decided.ensures.loads.decides)

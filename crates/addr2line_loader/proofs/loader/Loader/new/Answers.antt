@@ -18,8 +18,8 @@ pub returns : goal.returns
 returns g c = record {
   image = Ok c.in_ok-image.image;
   supplement = Ok None;
-  image_is_read = tt;
+  image_is_read = c.in_ok-image.ensures;
   supplement_is_read = (None, refl, tt, refl);
-  loads = c.from_bytes.ensures.file;
-  lines = c.from_bytes.ensures.lines;
+  loads = c.from_parts.ensures.file;
+  lines = c.from_parts.ensures.lines;
 }

@@ -21,5 +21,5 @@ loop-attr-preserved g c =
 
 pub returns : goal.returns
 returns g c =
-    read-end (raw_attribute_of g.R.Reader.view g.R.Offset.ReaderOffset.count) c.args.attrs.now c.loop-attr.attr-index _ _
-    c.loop-attr-test.false c.loop-attr.invariant
+    read-end (raw_attribute_of g.R.Reader.view g.R.Offset.ReaderOffset.count) c.args.attrs.now c.loop-attr.attr-index
+    _ _ c.loop-attr-test.false c.loop-attr.invariant

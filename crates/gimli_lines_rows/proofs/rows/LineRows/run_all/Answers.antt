@@ -50,8 +50,8 @@ loop-self-smaller-in-Continue-branch-4 g c =
 pub returns-in_default-clause-rows : goal.returns-in_default-clause-rows
 returns-in_default-clause-rows g c =
     let limit = g.R.Offset.ReaderOffset.limit in
-    all_given limit g.S.RowSink.form g.S.RowSink.HasTaken (tt {0}) c.args.self.now c.run_at_once.new.self c.step.new.self
-    c.args.sink.now c.run_at_once.new.sink
+    all_given limit g.S.RowSink.form g.S.RowSink.HasTaken (tt {0}) c.args.self.now c.run_at_once.new.self
+    c.step.new.self c.args.sink.now c.run_at_once.new.sink
     (given_run limit g.S.RowSink.form g.S.RowSink.HasTaken (tt {0}) c.args.self.now c.loop-self.self
     c.run_at_once.new.self c.args.sink.now c.loop-self.sink c.run_at_once.new.sink c.loop-self.invariant
     c.in_ok-run_at_once.ensures)
@@ -59,8 +59,9 @@ returns-in_default-clause-rows g c =
 
 pub returns-in_err-run_at_once-clause-rows : goal.returns-in_err-run_at_once-clause-rows
 returns-in_err-run_at_once-clause-rows g c =
-    given_to_refusal (Unit {0}) g.R.Offset.ReaderOffset.limit g.S.RowSink.form g.S.RowSink.HasTaken c.from_residual.result
-    c.args.self.now c.loop-self.self c.run_at_once.new.self c.args.sink.now c.loop-self.sink c.run_at_once.new.sink _
+    given_to_refusal (Unit {0}) g.R.Offset.ReaderOffset.limit g.S.RowSink.form g.S.RowSink.HasTaken
+    c.from_residual.result c.args.self.now c.loop-self.self c.run_at_once.new.self c.args.sink.now c.loop-self.sink
+    c.run_at_once.new.sink _
     c.from_residual.ensures.1 c.loop-self.invariant c.in_err-run_at_once.ensures
 
 pub returns-in_err-run_at_once-clause-free : goal.returns-in_err-run_at_once-clause-free
