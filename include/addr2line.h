@@ -9,11 +9,13 @@
  *     a2l_close(&loader);
  *   }
  *
+ * A program is built by `cc prog.c $(pkg-config --cflags --libs addr2line)`.
+ *
  * Rules for all calls
  *
- * - Each returns A2L_OK or another number of those below. Nothing is written through `out` or
- *   `count` unless the call returns A2L_OK, but that a2l_find_frames, a2l_get_frames,
- *   a2l_next_ranges and a2l_find_loads set `*count` to 0 otherwise.
+ * - Each returns A2L_OK or another number of those below. Nothing is written through `out`,
+ *   `count`, `code` or `sentence` unless the call returns A2L_OK, but that a2l_find_frames,
+ *   a2l_get_frames, a2l_next_ranges and a2l_find_loads set `*count` to 0 otherwise.
  * - No pointer may be NULL: with a length of 0 pass any other address, such as "". What a call
  *   writes through is memory of the caller that nothing else reads or writes during the call; a
  *   struct is initialized by its A2L_..._INIT before its first use.
@@ -63,7 +65,7 @@ enum {
   /* a2l_open_with has no such flag. */
   A2L_UNKNOWN_FLAG = 8,
 
-  /* E1 to E33: why debugging information can't be read. a2l_error_sentence says what each means. */
+  /* E1 to E33: why debugging information can't be read. a2l_error_text says what each means. */
   A2L_E1 = 101, /* out of memory */
   A2L_E2 = 102,
   A2L_E3 = 103,
@@ -205,11 +207,12 @@ typedef struct {
 } a2l_load;
 #define A2L_LOAD_INIT {A2L_TEXT_INIT, A2L_TEXT_INIT, 0, 0, 0}
 
-/* How names of functions and symbols are given. */
+/* How names of functions and symbols are given. Any other number is taken for A2L_DEMANGLED. */
 enum {
   /* As the file has them, each sequence that isn't UTF-8 as U+FFFD. */
   A2L_RAW = 0,
-  /* Rust's names of the form _ZN..E as paths; all others as they are. So is any other number. */
+  /* Names as Rust's legacy mangling has them (_ZN..E) as paths. All others stay as they are, such
+   * as those of C++'s functions, and so do all in units of another language than Rust. */
   A2L_DEMANGLED = 1
 };
 
@@ -238,7 +241,7 @@ enum {
   /* The bytes stay where they are, mapped and unchanged, until the loader is closed. Without this
    * flag they are copied. */
   A2L_IN_PLACE = 1,
-  /* There is a supplementary file. Without this flag `sup` isn't read. */
+  /* There is a supplementary file. Without this flag `sup` isn't read, but may not be NULL. */
   A2L_SUP = 2,
   /* Compressed sections that lookups read are decompressed: of the file, of its supplementary
    * file, and of split files that are brought. A file that has none is used as it is. */
@@ -277,7 +280,8 @@ int32_t a2l_find_ranges(a2l_loader *loader, uint64_t low, uint64_t high);
  * the last call gave. `*count` says how many were written, at least 1 where the call returns
  * A2L_OK; fewer than there is room for are no sign of the end. A2L_PAST_END where none is left, or
  * no walk was begun; A2L_NO_ROOM where `room` is 0. A refusal (E1 to E33) comes once those before
- * it are given, and again at each further call. The texts of all of `out` are lent together. */
+ * it are given, and again at each further call; after A2L_E1 the walk goes on once there is memory,
+ * and no stretch is lost. The texts of all of `out` are lent together. */
 int32_t a2l_next_ranges(a2l_loader *loader, a2l_range *out, size_t room, size_t *count);
 
 /* ---- Frames */
@@ -302,9 +306,10 @@ int32_t a2l_get_frames(a2l_loader *loader, size_t first, a2l_frame *out, size_t 
 
 /* ---- Symbols and sections */
 
-/* The symbol that holds an address: of several the one that begins last. A2L_NOT_FOUND where there
- * is none; A2L_E1 only for a name that is demangled. The name is lent. `names` is A2L_RAW or
- * A2L_DEMANGLED. */
+/* The symbol that holds an address: of several the one that begins last. One of the size 0 holds
+ * all addresses from its own on, so that also those after the last section may have a symbol, such
+ * as `_end`. A2L_NOT_FOUND where there is none; A2L_E1 only for a name that is demangled. The name
+ * is lent. `names` is A2L_RAW or A2L_DEMANGLED. */
 int32_t a2l_find_symbol(a2l_loader *loader, uint64_t address, uint32_t names, a2l_symbol *out);
 
 /* The addresses of the first section of a name. A2L_NOT_FOUND where there is none. */
@@ -342,12 +347,16 @@ int32_t a2l_skip_load(a2l_loader *loader, size_t number);
 
 /* ---- Refusals */
 
-/* The letter and the number of what a call returned, as "E16", "L6", "L8 E16" or "Z9", and for 1
- * to 8 as "C4". A2L_NOT_FOUND for A2L_OK and for numbers that no call returns. The text is never
- * freed. */
+/* What a call returned, in two texts: its letter and number, as "E16", "L6", "L8 E16" or "Z9", and
+ * for 1 to 8 as "C4"; and a sentence that says what it means, in English, without a full stop.
+ * A2L_NOT_FOUND for A2L_OK and for a number that stands for nothing, such as 300. The texts are
+ * never freed. */
+int32_t a2l_error_text(int32_t number, a2l_text *code, a2l_text *sentence);
+
+/* The letter and number alone. */
 int32_t a2l_error_code(int32_t number, a2l_text *out);
 
-/* A sentence that says what it means, in English, without a full stop. As a2l_error_code. */
+/* The sentence alone. */
 int32_t a2l_error_sentence(int32_t number, a2l_text *out);
 
 #ifdef __cplusplus

@@ -340,6 +340,44 @@ static void answers(void) {
     a2l_close(&loader);
 }
 
+/* What was found stays, and a walk goes on, whatever is asked between. */
+static void ask_between(void) {
+    a2l_loader loader = opened("a.elf"), split = opened("split.elf");
+    a2l_location location = no_location;
+    a2l_range range = no_range;
+    a2l_frame frame = no_frame;
+    a2l_symbol symbol = no_symbol;
+    a2l_section section = no_section;
+    a2l_load load = no_load;
+    size_t frames = 0, ranges = 0, loads = 0;
+    int32_t number = 0;
+    number = AGAIN(a2l_find_frames(&loader, 0x1000, A2L_RAW, &frames));
+    if (number != A2L_OK || frames != 2) fail("other frames");
+    a2l_find_ranges(&loader, 0, UINT64_MAX);
+    for (uint64_t place = 0; place < 3; place++) {
+        number = AGAIN(a2l_next_ranges(&loader, &range, 1, &ranges));
+        if (number != A2L_OK || ranges != 1 || range.address != 0x1000 + 3 * place) fail("another range");
+        number = AGAIN(a2l_find_location(&loader, 0x1006, &location));
+        if (number != A2L_OK || location.line != 9) fail("another location");
+        number = AGAIN(a2l_find_symbol(&loader, 0x1003, A2L_DEMANGLED, &symbol));
+        if (number != A2L_OK) fail("another symbol");
+        if (a2l_find_section(&loader, (const uint8_t *)".text", 5, &section) != A2L_OK) fail("another section");
+        number = AGAIN(a2l_find_loads(&loader, 0x1000, &loads));
+        if (number != A2L_OK || loads != 0) fail("other loads");
+        if (a2l_get_frame(&loader, 1, &frame) != A2L_OK || frame.function.len != 1 || frame.function.ptr[0] != 'g')
+            fail("another frame");
+    }
+    number = AGAIN(a2l_find_loads(&split, 0x1000, &loads));
+    if (number != A2L_OK || loads != 1) fail("other loads");
+    a2l_find_ranges(&split, 0, UINT64_MAX);
+    number = AGAIN(a2l_next_ranges(&split, &range, 1, &ranges));
+    number = AGAIN(a2l_find_location(&split, 0x1003, &location));
+    if (a2l_get_load(&split, 0, &load) != A2L_OK || load.name.len != 9) fail("another load");
+    a2l_close(&split);
+    a2l_close(&loader);
+    printf("what was found stays, whatever is asked between\n");
+}
+
 static void copies(void) {
     a2l_text image = file_of("a.elf");
     uint8_t *bytes = (uint8_t *)malloc(image.len);
@@ -601,15 +639,37 @@ static void split_file(const char *brought, int is_in_place) {
     a2l_close(&loader);
 }
 
+/* Both texts of a number; where it has none, none is written. */
+static void ask_texts(int32_t number) {
+    a2l_text code = no_text, sentence = no_text;
+    int32_t found = a2l_error_text(number, &code, &sentence);
+    printf("texts of %" PRId32 ": ", number);
+    print_number(found);
+    if (found == A2L_OK) {
+        printf(", '");
+        print_text(code);
+        printf("' '");
+        print_text(sentence);
+        printf("'");
+    } else if (code.ptr != no_text.ptr || sentence.ptr != no_text.ptr) {
+        fail("a text is written");
+    }
+    printf("\n");
+}
+
 /* Each refusal has a code and a sentence, no other number has. */
 static void refusals(void) {
-    a2l_text code = no_text, sentence = no_text;
+    static const int32_t kinds[] = {A2L_OK, A2L_CLOSED, A2L_E16, A2L_L6, A2L_L8 + 16, A2L_Z9, A2L_L8, -1};
+    a2l_text code = no_text, sentence = no_text, code_of_both = no_text, sentence_of_both = no_text;
     int last = -1000, count = 0;
+    for (size_t place = 0; place < sizeof kinds / sizeof *kinds; place++) ask_texts(kinds[place]);
     for (int32_t number = -500; number <= 500; number++) {
         int has_code = a2l_error_code(number, &code) == A2L_OK;
         int has_sentence = a2l_error_sentence(number, &sentence) == A2L_OK;
-        if (has_code != has_sentence) fail("a code without a sentence");
+        int has_both = a2l_error_text(number, &code_of_both, &sentence_of_both) == A2L_OK;
+        if (has_code != has_sentence || has_code != has_both) fail("a code without a sentence");
         if (!has_code) continue;
+        if (!is_same_text(code, code_of_both) || !is_same_text(sentence, sentence_of_both)) fail("two texts of a number");
         if (sentence.len < 8 || sentence.ptr[sentence.len - 1] == '.') fail("no sentence");
         if (number != last + 1) printf("%" PRId32 " ", number);
         last = number;
@@ -656,6 +716,7 @@ int main(int argc, char **argv) {
     not_open();
     refused();
     answers();
+    ask_between();
     copies();
     supplements();
     flags();

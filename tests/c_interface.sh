@@ -44,6 +44,7 @@ has() {
 
 prefix="$work/prefix"
 check "tools/install" "${INSTALL:-$top/tools/install}" "$prefix"
+check "tools/install over what is there" "${INSTALL:-$top/tools/install}" "$prefix"
 export PKG_CONFIG_PATH="$prefix/lib/pkgconfig" ADDR2LINE_LIBRARY="$prefix/lib/libaddr2line.so.1"
 if has pkg-config; then
     flags="$(pkg-config --cflags --libs addr2line)"
@@ -134,6 +135,7 @@ python_cases() {
     export PYTHONPATH="$top/examples/python" PYTHONDONTWRITEBYTECODE=1
     cd "$data" || return
     case_of 'printf "1000 1004\n1000;1004\n1003\nff000\n" | python3 "$PYTHONPATH/fold.py" a.elf'
+    case_of 'printf "1000\nmain\n" | python3 "$PYTHONPATH/fold.py" a.elf'
     case_of 'printf "1004 1000\n" | python3 "$PYTHONPATH/fold.py" a.elf --outermost-first --exact'
     case_of 'printf "1\n" | python3 "$PYTHONPATH/fold.py" a.json 2>&1 | tail -n 1'
     case_of "python3 -c '
@@ -166,6 +168,14 @@ try:
 except addr2line.Refused as error:
     print(error.code)
 '"
+}
+
+# Python opens a file with compressed sections.
+python_packed() { # FILE
+    PYTHONPATH="$top/examples/python" PYTHONDONTWRITEBYTECODE=1 python3 -c '
+import sys, addr2line
+with addr2line.open(sys.argv[1]) as image:
+    print(next(iter(image)))' "$1"
 }
 
 # Compares what a group of cases prints with its part of c_interface.txt.
@@ -226,6 +236,7 @@ check "what the callers print, over the archive" compare cases by-archive
 flags="$flags_of_shared"
 if has python3; then
     check "what the callers in Python print" compare python_cases
+    check "compressed sections, in Python" python_packed packing/packed
 fi
 check "ten thousand files opened and closed" "$first/c_interface" "$data" 10000
 
@@ -270,26 +281,30 @@ refuse_each() { # WORD..
     [ "$number" -gt 100 ]
 }
 
-# The same for a caller that doesn't ask again: it must say why it stops or leaves something out.
-refuse_some() { # WORD..
-    local number=0 status
+# The same, in a folder, for a caller that doesn't ask again: it must say why it stops or leaves something out.
+refuse_some() ( # FOLDER WORD..
+    cd "$1" || exit
+    shift
+    number=0
     "$@" > wanted
     while :; do
         number=$((number + 1))
         rm -f refused
-        LD_PRELOAD="$work/refuse.so" REFUSE="$number" REFUSED="$work/refused" "$@" > found 2> err
+        LD_PRELOAD="$work/refuse.so" REFUSE="$number" REFUSED="$PWD/refused" "$@" > found 2> err
         status=$?
         [ -e refused ] || break
-        [ "$status" -le 1 ] || { echo "allocation $number: status $status"; return 1; }
-        cmp -s wanted found || grep -qE '(E1|L1): ' err || { echo "allocation $number"; return 1; }
+        [ "$status" -le 1 ] || { echo "allocation $number: status $status"; exit 1; }
+        cmp -s wanted found || grep -qE '(E1|L1): ' err || { echo "allocation $number"; exit 1; }
     done
     echo "$((number - 1)) allocations, each refused once"
-}
+)
 cc -O2 -shared -fPIC -o refuse.so "$top/bench/refuse.c"
 check "each allocation refused: c_interface" refuse_each "$first/c_interface" "$data" 0
 allocations="$(tail -n 1 said)"
 check "each allocation refused: compressed sections" refuse_each "$first/c_interface" $packing 997
-check "each allocation refused: addr2line" refuse_some "$first/addr2line" -e "$data/split.elf" -afip 0x1000 0x1003 0xfff
+mkdir brought
+cp "$data"/split.{elf,dwo} brought
+check "each allocation refused: addr2line" refuse_some brought "$work/$first/addr2line" -e split.elf -afipC 0x1000 0x1003 0xfff
 
 [ ${#lacking[@]} = 0 ] || echo "left out, since it isn't there: ${lacking[*]}"
 echo "c_interface: $passed checks passed, $failed failed; $allocations"

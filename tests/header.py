@@ -7,7 +7,7 @@ usage: tests/header.py [ARCHIVE]
 - The structs have the fields of the `#[repr(C)]` structs there, in that order, of the same types.
 - Sizes and offsets are the same by C's rules, by a C compiler where there is one, and in examples/python/addr2line.py.
 - The numbers are those of the constants in crates/addr2line_c/src, and E1 to E33, L1 to L7 and Z1 to Z12 count from 100, 200
-  and 400.
+  and 400. That of the version is in the name of the shared library, in tools/install and in examples/python/addr2line.py.
 """
 import ctypes
 import glob
@@ -172,6 +172,14 @@ def compare_python(structs):
         compare(name, (size, offsets), theirs, "the header", "Python")
 
 
+def compare_version(header):
+    """Compares the number of the version with the names of the shared library."""
+    version = re.search(r"(?m)^#define A2L_VERSION (\d+)$", header)[1]
+    for path in "tools/install", os.path.relpath(CALLER, TOP):
+        for name in set(re.findall(r"libaddr2line\.so\.\w+", read(f"{TOP}/{path}"))):
+            compare("the shared library", f"libaddr2line.so.{version}", name, "the header", path)
+
+
 # ---- All
 
 
@@ -205,6 +213,7 @@ def main():
             compare(name, number, wanted, "the header", "the rule")
     compare_compiler(structs)
     compare_python(structs)
+    compare_version(read(HEADER))
     if len(sys.argv) > 1:
         compare("exports", sorted(calls), exports(sys.argv[1]), "the header", "the archive")
     print(*faults, sep="\n", end="\n" if faults else "")

@@ -1,4 +1,4 @@
-/* addr2line: the files, lines and functions of addresses of an ELF file, as the command of that name prints them.
+/* addr2line: the files, lines and functions of addresses of an ELF file, as `linemap lookup` prints them.
  *
  *     cc -O2 -o addr2line addr2line.c $(pkg-config --cflags --libs addr2line)
  *     ./addr2line -e FILE [-afipsC] [ADDRESS..]
@@ -7,6 +7,10 @@
  * the program waits for more, as `perf` needs it. The file is mapped, and nothing of it is copied unless sections of it are
  * compressed (gcc -gz): these are always decompressed. Split files (.dwo) are looked for where it says, mapped, and
  * decompressed too. `--all` prints all places of the file, one for each address that begins one.
+ *
+ * The form is that of GNU's command of this name. What differs from it: -C demangles names of Rust's legacy mangling alone, and
+ * none of C++; the last function of an address has the name of the symbol that holds it; where nothing is known, -pf prints
+ * `?? at ??:0` for `?? ??:0`; -a prints 16 digits also for files of 32 bits.
  */
 #include <addr2line.h>
 #include <errno.h>
@@ -23,7 +27,7 @@
 static const struct option LONG_OPTIONS[] = {
     {"exe", required_argument, NULL, 'e'}, {"addresses", no_argument, NULL, 'a'}, {"functions", no_argument, NULL, 'f'},
     {"inlines", no_argument, NULL, 'i'},   {"pretty-print", no_argument, NULL, 'p'}, {"basenames", no_argument, NULL, 's'},
-    {"demangle", no_argument, NULL, 'C'},  {"all", no_argument, NULL, 'A'},       {NULL, 0, NULL, 0},
+    {"demangle", optional_argument, NULL, 'C'}, {"all", no_argument, NULL, 'A'},  {NULL, 0, NULL, 0},
 };
 
 static struct {
@@ -33,6 +37,21 @@ static struct {
 } options = {"a.out", 0, 0, 0, 0, 0, 0, A2L_RAW};
 
 static a2l_loader loader = A2L_LOADER_INIT;
+
+/* ---- Refusals */
+
+static void say_refusal(const char *what, int32_t why) {
+    a2l_text code = A2L_TEXT_INIT, sentence = A2L_TEXT_INIT;
+    a2l_error_text(why, &code, &sentence);
+    fprintf(stderr, "addr2line: %s: %.*s: %.*s\n", what, (int)code.len, (const char *)code.ptr, (int)sentence.len,
+            (const char *)sentence.ptr);
+}
+
+static void say_refused_address(uint64_t address, int32_t why) {
+    char what[24];
+    snprintf(what, sizeof what, "0x%" PRIx64, address);
+    say_refusal(what, why);
+}
 
 /* ---- Files */
 
@@ -57,7 +76,8 @@ static int map_file(const char *path, a2l_text *image) {
     return is_regular;
 }
 
-/* Answers a split file that an address waits for by its bytes, if they are found, or else by none. */
+/* Answers a split file that an address waits for by its bytes, if they are found, or else by none. A refusal of what is in
+ * them comes again with the frames, but for that of memory. */
 static void bring_load(size_t number) {
     a2l_load load = A2L_LOAD_INIT;
     a2l_text image;
@@ -67,14 +87,18 @@ static void bring_load(size_t number) {
     int directory = is_absolute || !load.has_directory ? 0 : (int)load.directory.len;
     int length = snprintf(path, sizeof path, "%.*s%s%.*s", directory, (const char *)load.directory.ptr, directory ? "/" : "",
                           (int)load.name.len, (const char *)load.name.ptr);
-    if (load.has_name && length > 0 && (size_t)length < sizeof path && map_file(path, &image))
-        if (a2l_answer_load_in_place(&loader, number, image.ptr, image.len) != A2L_WRONG_FILE) return;
+    if (load.has_name && length > 0 && (size_t)length < sizeof path && map_file(path, &image)) {
+        int32_t why = a2l_answer_load_in_place(&loader, number, image.ptr, image.len);
+        if (why == A2L_E1) say_refusal(path, why);
+        if (why != A2L_WRONG_FILE) return;
+    }
     a2l_skip_load(&loader, number);
 }
 
 static void bring_loads(uint64_t address) {
     size_t count = 0;
-    if (a2l_find_loads(&loader, address, &count) != A2L_OK) return;
+    int32_t why = a2l_find_loads(&loader, address, &count);
+    if (why != A2L_OK) say_refused_address(address, why);
     for (size_t number = 0; number < count; number++) bring_load(number);
 }
 
@@ -156,20 +180,6 @@ static void put_name(const a2l_text *name) {
     put_string(options.pretty ? " at " : "\n");
 }
 
-static void say_refusal(const char *what, int32_t why) {
-    a2l_text code = A2L_TEXT_INIT, sentence = A2L_TEXT_INIT;
-    a2l_error_code(why, &code);
-    a2l_error_sentence(why, &sentence);
-    fprintf(stderr, "addr2line: %s: %.*s: %.*s\n", what, (int)code.len, (const char *)code.ptr, (int)sentence.len,
-            (const char *)sentence.ptr);
-}
-
-static void say_refused_address(uint64_t address, int32_t why) {
-    char what[24];
-    snprintf(what, sizeof what, "0x%" PRIx64, address);
-    say_refusal(what, why);
-}
-
 /* ---- Answers */
 
 /* A frame. The last one has the name of the symbol that holds the address, if there is one: that of a linker is whole where a
@@ -179,10 +189,12 @@ static void put_frame(uint64_t address, size_t number, int is_last) {
     static const a2l_symbol no_symbol = A2L_SYMBOL_INIT;
     a2l_frame frame = none;
     a2l_symbol symbol = no_symbol;
-    int has_symbol = options.functions && is_last && a2l_find_symbol(&loader, address, options.names, &symbol) == A2L_OK;
-    if (has_symbol) put_name(&symbol.name);
+    int32_t why = A2L_NOT_FOUND;
+    if (options.functions && is_last) why = a2l_find_symbol(&loader, address, options.names, &symbol);
+    if (why == A2L_E1) say_refused_address(address, why);
+    if (why == A2L_OK) put_name(&symbol.name);
     int has_frame = a2l_get_frame(&loader, number, &frame) == A2L_OK;
-    if (!has_symbol) put_name(has_frame && frame.has_function ? &frame.function : NULL);
+    if (why != A2L_OK) put_name(has_frame && frame.has_function ? &frame.function : NULL);
     put_place(has_frame && frame.has_location ? &frame.location : NULL);
 }
 

@@ -7,10 +7,11 @@
         for frame in image.frames(0x1146):
             print(frame)
 
-A file is mapped, and nothing of it is copied. What is returned is Python's own: texts are strings, and stay when the image is closed.
-Refused files and addresses raise Refused, which has the refusal's code (`E16`, `L6`); memory that is refused raises MemoryError.
-An image is used by the thread that opened it. The shared library is the one that ADDR2LINE_LIBRARY names, or else that of the
-system, or of `tools/install` in the user's home.
+A file is mapped, and nothing of it is copied unless sections of it are compressed: these are decompressed, and those of its split
+files too. What is returned is Python's own: texts are strings, and stay when the image is closed. An image that is never closed
+keeps its memory. Refused files and addresses raise Refused, which has the refusal's code (`E16`, `L6`); memory that is refused
+raises MemoryError. An image is used by the thread that opened it. The shared library is the one that ADDR2LINE_LIBRARY names, or
+else that of the system, or of `tools/install` in the user's home.
 """
 import builtins
 import ctypes
@@ -22,6 +23,8 @@ __all__ = ["open", "Frame", "Image", "Location", "Range", "Refused", "Symbol"]
 
 SONAME = "libaddr2line.so.1"
 OK, NOT_FOUND, PAST_END, WRONG_FILE, OUT_OF_MEMORY = 0, 1, 2, 7, (101, 201)
+# How an image is opened.
+IN_PLACE, SUP, DECOMPRESS = 1, 2, 4
 LAST_ADDRESS = (1 << 64) - 1
 # How many ranges are asked for at a time.
 BATCH = 256
@@ -97,7 +100,7 @@ def _new(kind):
 # The calls, by the types of their parameters after the loader.
 _BYTES = ctypes.c_void_p, ctypes.c_size_t
 _CALLS = {
-    "open": (), "open_with_sup": (), "open_in_place": (), "open_in_place_with_sup": (), "close": (),
+    "close": (),
     "find_location": (ctypes.c_uint64, ctypes.POINTER(_Location)),
     "find_ranges": (ctypes.c_uint64, ctypes.c_uint64),
     "next_ranges": (ctypes.POINTER(_Range), ctypes.c_size_t, ctypes.POINTER(ctypes.c_size_t)),
@@ -121,11 +124,10 @@ def _library():
             raise
         found = ctypes.CDLL(os.path.expanduser(f"~/.local/lib/{SONAME}"))
     for name, parameters in _CALLS.items():
-        # (the bytes to open come before the loader)
-        before = _BYTES * (1 + name.endswith("_sup")) if name.startswith("open") else ()
-        getattr(found, f"a2l_{name}").argtypes = [*before, ctypes.POINTER(_Loader), *parameters]
-    for name in "a2l_error_code", "a2l_error_sentence":
-        getattr(found, name).argtypes = [ctypes.c_int32, ctypes.POINTER(_Text)]
+        getattr(found, f"a2l_{name}").argtypes = [ctypes.POINTER(_Loader), *parameters]
+    # (there the loader comes last)
+    found.a2l_open_with.argtypes = [*_BYTES, *_BYTES, ctypes.c_uint32, ctypes.POINTER(_Loader)]
+    found.a2l_error_text.argtypes = [ctypes.c_int32, ctypes.POINTER(_Text), ctypes.POINTER(_Text)]
     return found
 
 
@@ -172,15 +174,11 @@ class Refused(Exception):
     """A file or an address that is refused: its number, its code and what it means."""
 
     def __init__(self, number):
+        texts = [_Text(ctypes.addressof(_EMPTY), 0) for _ in range(2)]
+        is_known = _CALLED.a2l_error_text(number, *map(ctypes.byref, texts)) == OK
         self.number = number
-        self.code, self.sentence = (self._text(it, number) for it in (_CALLED.a2l_error_code, _CALLED.a2l_error_sentence))
+        self.code, self.sentence = (it.text() if is_known else "?" for it in texts)
         super().__init__(f"{self.code}: {self.sentence}")
-
-    @staticmethod
-    def _text(call, number):
-        text = _new(_Text)
-        text.ptr = ctypes.addressof(_EMPTY)
-        return text.text() if call(number, ctypes.byref(text)) == OK else "?"
 
 
 def _checked(number, *others):
@@ -216,22 +214,26 @@ class Image:
 
     def __init__(self, image, sup=None):
         self._loader, self._maps, self._walk = _Loader(), [], 0
-        if isinstance(image, (bytes, bytearray)):
-            copies = [bytes(it) for it in (image, sup) if it is not None]
-            words = [word for it in copies for word in (ctypes.cast(ctypes.c_char_p(it), ctypes.c_void_p), len(it))]
-            call = _CALLED.a2l_open if sup is None else _CALLED.a2l_open_with_sup
-        else:
-            words = [word for it in (image, sup) if it is not None for word in self._mapped(it).words()]
-            call = _CALLED.a2l_open_in_place if sup is None else _CALLED.a2l_open_in_place_with_sup
+        flags = DECOMPRESS if sup is None else DECOMPRESS | SUP
         try:
-            _checked(call(*words, ctypes.byref(self._loader)))
+            if isinstance(image, (bytes, bytearray)):
+                words = *self._copied(image), *self._copied(sup or b"")
+            else:
+                flags |= IN_PLACE
+                words = *self._mapped(image), *(self._copied(b"") if sup is None else self._mapped(sup))
+            _checked(_CALLED.a2l_open_with(*words, flags, ctypes.byref(self._loader)))
         except BaseException:
             self._unmap()
             raise
 
+    @staticmethod
+    def _copied(image):
+        copy = bytes(image)
+        return ctypes.cast(ctypes.c_char_p(copy), ctypes.c_void_p), len(copy)
+
     def _mapped(self, path):
         self._maps.append(_Map(path))
-        return self._maps[-1]
+        return self._maps[-1].words()
 
     def _unmap(self):
         while self._maps:
@@ -300,9 +302,12 @@ class Image:
             except (OSError, ValueError):
                 self._call("skip_load", number)
                 continue
-            # (a split file that is refused is refused again by the frames)
-            if _CALLED.a2l_answer_load_in_place(ctypes.byref(self._loader), number, *split.words()) == WRONG_FILE:
+            # (a split file that is refused is refused again by the frames, unless memory is refused)
+            outcome = _CALLED.a2l_answer_load_in_place(ctypes.byref(self._loader), number, *split)
+            if outcome == WRONG_FILE:
                 self._call("skip_load", number)
+            elif outcome in OUT_OF_MEMORY:
+                _checked(outcome)
 
     # ---- Symbols and sections
 

@@ -6,7 +6,8 @@ usage: fold.py FILE [--base ADDRESS] [--outermost-first] [--exact] < STACKS
 Each line of STACKS is a stack: addresses in hexadecimal, the innermost first, unless the option says otherwise. Each line that
 is printed has the names of a stack's functions, the outermost first, with `;` between them, and how many stacks are the same.
 FILE is the ELF file of the program. Addresses count from ADDRESS on, where that file is mapped there. All but the innermost are
-where calls return to, so that the call is before them: with `--exact` they are taken as they are.
+where calls return to, so that the call is before them: with `--exact` they are taken as they are. Addresses outside of the
+program's code, such as those of shared libraries, are `[unknown]`. Names of C++ stay as they are: c++filt demangles them.
 """
 import argparse
 import collections
@@ -14,6 +15,9 @@ import functools
 import sys
 
 import addr2line
+
+# The sections of code. Elsewhere a symbol says nothing: one without a size holds all addresses after it.
+CODE = ".init", ".plt", ".plt.got", ".plt.sec", ".text", ".fini"
 
 
 def words():
@@ -30,6 +34,7 @@ class Folder:
 
     def __init__(self, image):
         self.image = image
+        self.code = [it for it in map(image.section, CODE) if it]
         self.names = functools.lru_cache(None)(self.find_names)
 
     def find_names(self, address):
@@ -40,8 +45,8 @@ class Folder:
             print(f"0x{address:x}: {refused}", file=sys.stderr)
             names = []
         if not names or names == ["??"]:
-            symbol = self.image.symbol(address)
-            names = [symbol.name if symbol else f"0x{address:x}"]
+            symbol = self.image.symbol(address) if any(address in it for it in self.code) else None
+            names = [symbol.name if symbol else "[unknown]"]
         return [it.replace(";", ":") for it in reversed(names)]
 
     def fold(self, addresses):
@@ -62,8 +67,12 @@ def fold_lines(options):
     counts = collections.Counter()
     with addr2line.open(options.file) as image:
         folder = Folder(image)
-        for line in sys.stdin:
-            addresses = [int(it, 16) - options.base for it in line.replace(";", " ").split()]
+        for number, line in enumerate(sys.stdin, 1):
+            try:
+                addresses = [int(it, 16) - options.base for it in line.replace(";", " ").split()]
+            except ValueError:
+                print(f"fold.py: line {number}: no hexadecimal addresses: {line.strip()}", file=sys.stderr)
+                continue
             if options.outermost_first:
                 addresses.reverse()
             if not options.exact:

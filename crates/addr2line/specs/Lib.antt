@@ -119,3 +119,6 @@ pub use Rattle.gimli_dwarf.specs.Splitting
 pub use Rattle.gimli_dwarf.specs.TableCache
 pub use Rattle.gimli_dwarf.specs.Tiling
 pub use Rattle.gimli_dwarf.specs.UnitFacts
+pub use Rattle.addr2line_debug_files.specs.StandardNumbers as NoteNumbers
+pub use Rattle.addr2line_decompress.specs.StandardNumbers as CompressionNumbers
+pub use Rattle.addr2line_decompress.specs.ZlibNumbers

@@ -6,8 +6,8 @@
 
 pub use addr2line_context::{
     Context, Dwarf, Error, FindFrames, FindUnit, Frame, FrameIter, FunctionName, Location,
-    LocationRangeIter, LookupContinuation, LookupResult, Reader, Runs, SplitDwarfLoad, UnitLines,
-    UnitToken,
+    LocationRangeIter, LookupContinuation, LookupResult, RangeWalk, Reader, Runs, SplitDwarfLoad,
+    UnitLines, UnitStretch, UnitToken,
 };
 pub use addr2line_debug_files::{
     Candidate, DebugFiles, FilesByPath, Identity, MemoryFiles, NamedFile, SystemFiles,
@@ -18,10 +18,12 @@ pub use addr2line_elf::{
     FilePart, FileParts, LoadError, MemoryFile, PartSource, Symbol, read_needed,
 };
 pub use addr2line_index::{Probed, Probes};
+pub use addr2line_loader::stretches::{next_place, next_stretch};
 pub use addr2line_loader::{
-    DebugSections, DecompressError, DecompressedSource, Loader, LoaderRangeIter, decompressed,
-    decompressed_sections,
+    DebugSections, DecompressError, DecompressedSource, InflateError, Loader, LoaderRangeIter,
+    decompressed, decompressed_sections,
 };
+pub use addr2line_root::{CountedUnit, OwnedUnit};
 pub use addr2line_split::{
     FileSource, FileSystem, MapSource, SplitFile, SplitSource, load_split, read_parts,
 };
@@ -29,8 +31,10 @@ pub use addr2line_split::{
 /// What holds of the definitions, as contracts.
 pub mod laws {
     pub use addr2line_context::{skip_laws as skips, walk_laws as walks};
+    pub use addr2line_debug_files::standard_numbers as note_numbers;
+    pub use addr2line_decompress::{standard_numbers as compression_numbers, zlib_numbers};
     pub use addr2line_demangle::name_laws as demangling;
-    pub use addr2line_elf::symbol_laws as symbols;
+    pub use addr2line_elf::{standard_numbers as elf_numbers, symbol_laws as symbols};
     pub use addr2line_functions::name_laws as entries;
     pub use addr2line_index::index_laws as lookups;
     pub use addr2line_loader::part_laws as parts;

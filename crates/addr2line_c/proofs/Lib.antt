@@ -5,4 +5,5 @@ mod KeptStretches
 mod LoadNumbers
 mod MemoryNumber
 mod WrittenSlices
+mod NumberTexts
 mod OpenNumbers

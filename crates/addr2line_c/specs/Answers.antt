@@ -1,5 +1,6 @@
 -- What calls do with an open file, and what they write.
 use Rattle.std.specs.Prelude.{◌≡◌, ◌≢◌, ◌⊎◌, ◌<◌, ◌≤◌, ℕ, Bool, true, false, ℤ, List, [], ◌∷◌, ◌++◌, length, map, slice_get, Option, Some, None, option_map, option_and_then, Result, Ok, Err}
+use Rattle.std.specs.Borrow.{Bor}
 use Rattle.addr2line_context.specs.Error.{Error}
 use Rattle.addr2line_context.specs.Error.TheVariants.{Memory}
 use Rattle.addr2line_context.specs.DwarfFiles.{DwarfFile}
@@ -11,9 +12,11 @@ use Rattle.addr2line_context.specs.Lookups.{answer_load}
 use Rattle.addr2line_context.specs.OwnedPlaces.{stretch_of}
 use Rattle.addr2line_context.specs.RangeWalks.{stretches_left}
 use Rattle.addr2line_context.specs.Repetition.{Listing, no_items, prepend}
+use Rattle.addr2line_context.specs.declared.owned_places.OwnedStretch.{OwnedStretch}
 use Rattle.addr2line_split.specs.ElfSymbols.{NamedSymbol}
 use Rattle.addr2line_split.specs.SplitLoading.{file_for}
 use Rattle.addr2line_loader.specs.DecompressedFiles.{decompressed_or_same}
+use Rattle.addr2line_loader.specs.ResolvedFiles.{AfterPlace}
 use Rattle.addr2line_loader.specs.SourceAnswers.{SourceFindsFrames}
 use Rattle.addr2line_c.specs.COutputs.{has, location_out, location_written, or_empty, range_out, range_written}
 use Rattle.addr2line_c.specs.Copies.{frame_of}
@@ -35,11 +38,23 @@ abbrev pub WritesPlace : Result (Option Location) Error → A2lLocation → Type
 WritesPlace (Ok (Some l)) out = location_written out ≡ location_out l
 WritesPlace _ out = ⊥
 
+-- What a lookup of a place leaves: the loader is as `Loader::find_location` leaves it, and the rest
+-- of the file as it was.
+pub record LeavesPlace {A : Type 0} (address : ℕ) (result : Result A Error) (old left : OpenFile)
+    : Type 0 where
+  pub loader : AfterPlace address result old.loader left.loader
+  pub same : left ≡ record old { loader = left.loader }
+
 -- the name of a symbol, raw or demangled, and its address
 abbrev pub WritesSymbol : ℕ → Option NamedSymbol → A2lSymbol → Type 0
 WritesSymbol names (Some s) out =
     (out.name.now ≡ name_text names None s.name) × (out.address ≡ s.address)
 WritesSymbol names None out = ⊥
+
+-- the symbol that a call lends, if there is one
+abbrev pub LendsSymbol : ℕ → Option NamedSymbol → Option A2lSymbol → Type 0
+LendsSymbol names symbol (Some out) = WritesSymbol names symbol out
+LendsSymbol names symbol None = symbol ≡ None
 
 -- where a section begins and ends
 abbrev pub WritesSection : Option (ℕ × ℕ) → A2lSection → Type 0
@@ -111,6 +126,31 @@ pub record KeepsStretches (count : ℕ) (old new : OpenFile) (result : Result (U
   pub first : left_of old ≡ prepend (map stretch_of new.stretches.items) (left_of new)
   pub room : length new.stretches.items ≤ count
   pub end : StretchesEnd count old new result
+
+-- the first of the stretches that are left, no more than asked for; none only where none is asked
+-- for or left
+pub record AreNext (count : ℕ) (old : OpenFile) (stretches : List OwnedStretch) : Type 0 where
+  pub rest : Listing (Unit {0}) Stretch
+  pub first : left_of old ≡ prepend (map stretch_of stretches) rest
+  pub room : length stretches ≤ count
+  pub end : stretches ≡ [] → 0 < count → left_of old ≡ no_items (Ok tt)
+
+-- they are lent, or the first is refused
+abbrev pub LendsNext : ℕ → OpenFile → Result (Bor (List OwnedStretch)) Error → Type 0
+LendsNext count old (Ok s) = AreNext count old s.now
+LendsNext count old (Err e) = e ≢ Memory → left_of old ≡ no_items (Err e)
+
+-- the stretches that are lent
+abbrev pub lent : Result (Bor (List OwnedStretch)) Error → List OwnedStretch
+lent (Ok s) = s.now
+lent (Err e) = []
+
+-- What a call that lends stretches leaves: these are kept, and the walk goes on after them.
+pub record LeavesNext (result : Result (Bor (List OwnedStretch)) Error) (old left : OpenFile)
+    : Type 0 where
+  pub same : SameButWalk old left
+  pub kept : left.stretches.items ≡ lent result
+  pub rest : left_of old ≡ prepend (map stretch_of (lent result)) (left_of left)
 
 -- at least one stretch is written, and these are the first of those that were left
 pub record WritesStretches (old : OpenFile) (count : ℕ) (out : List A2lRange) : Type 0 where

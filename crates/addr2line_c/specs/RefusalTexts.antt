@@ -117,6 +117,12 @@ abbrev pub or_else : {A : Type 0} → Option A → Option A → Option A
 or_else (Some x) other = Some x
 or_else None other = other
 
+-- two, if there are both
+abbrev pub both : {A B : Type 0} → Option A → Option B → Option (A × B)
+both None other = None
+both (Some x) None = None
+both (Some x) (Some y) = Some (x, y)
+
 -- the letter and number
 abbrev pub code_text : ℕ → Option (List ℕ)
 code_text n =
@@ -131,8 +137,12 @@ sentence_text n =
     (or_else (text_from 201 load_sentences n) (or_else (text_from 302 (drop 1 error_sentences) n)
     (text_from 401 decompress_sentences n))))
 
--- the text of a number, which one below 0 hasn't
-abbrev pub of_number : (ℕ → Option (List ℕ)) → ℤ → Option (List ℕ)
+-- the letter and number, and the sentence
+abbrev pub texts : ℕ → Option (List ℕ × List ℕ)
+texts n = both (code_text n) (sentence_text n)
+
+-- what a number stands for; one below 0 stands for nothing
+abbrev pub of_number : {A : Type 0} → (ℕ → Option A) → ℤ → Option A
 of_number text (pos n) = text n
 of_number text (negsuc n) = None
 
@@ -143,3 +153,7 @@ code_of number = of_number code_text number
 -- its sentence
 abbrev pub sentence_of : ℤ → Option (List ℕ)
 sentence_of number = of_number sentence_text number
+
+-- both of them
+abbrev pub texts_of : ℤ → Option (List ℕ × List ℕ)
+texts_of number = of_number texts number

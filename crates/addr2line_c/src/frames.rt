@@ -66,7 +66,7 @@ pub extern "C" fn a2l_get_frame<'a>(
     if opened != 1 {
         return refused_number(opened);
     }
-    let frames: &[OwnedFrame] = handle.file_mut().frames.as_slice();
+    let frames: &[OwnedFrame] = handle.file().frames.as_slice();
     match frames.get(number) {
         Some(frame) => {
             *out = A2lFrame::of(frame);
@@ -120,7 +120,7 @@ pub extern "C" fn a2l_get_frames<'a>(
     if out.is_empty() {
         return NO_ROOM;
     }
-    let frames: &[OwnedFrame] = handle.file_mut().frames.as_slice();
+    let frames: &[OwnedFrame] = handle.file().frames.as_slice();
     if frames.len() <= first {
         return PAST_END;
     }

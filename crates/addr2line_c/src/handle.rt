@@ -25,7 +25,7 @@ impl Model for Handle {
 
 impl Handle {
     ghost use Rattle.std.specs.Borrow.{sem};
-    ghost use Rattle.addr2line_c.specs.Lending.{LendsFile};
+    ghost use Rattle.addr2line_c.specs.Lending.{LeavesHandle, LendsFile};
 
     // Whether a file is open, as the first word says.
     pub(crate) fn state(&mut self) -> u32
@@ -82,5 +82,14 @@ impl Handle {
         ensures file { result.now ≡ self.old.file }
     {
         unsafe { &mut *(self.at as *mut OpenFile) }
+    }
+
+    // Lends the file of an open handle to be read: it stays as it is.
+    pub(crate) fn file(&mut self) -> &OpenFile
+        requires { self.old.opened ≡ 1 }
+        ensures* after { sem 𝓛 (LeavesHandle self.entry (λ left. left ≡ self.old.file)) }
+        ensures file { result.now ≡ self.old.file }
+    {
+        &*self.file_mut()
     }
 }

@@ -1,6 +1,9 @@
 //! The places of addresses, and the stretches between two of them.
 
-ghost use Rattle.std.specs.Prelude.{◌≡◌, ◌≢◌, ◌<◌, ◌≤◌, ◌⊎◌, ℕ, ◌^◌, ◌-◌, length, map, slice_get, option_map, min, Ok};
+ghost use Rattle.std.specs.Prelude.{◌≡◌, ◌≢◌, ◌<◌, ◌≤◌, ◌⊎◌, ℕ, ◌^◌, ◌-◌, length, map, slice_get, option_map, min, Ok, Err};
+ghost use Rattle.std.specs.Borrow.{sem};
+ghost use Rattle.addr2line_context.specs.BorrowedLocations.{location_value};
+ghost use Rattle.addr2line_context.specs.Calls.{ReturnsAsOrNoMemory};
 ghost use Rattle.addr2line_context.specs.ContextCosts.{AsksForPlace};
 ghost use Rattle.addr2line_context.specs.Contexts.{location, stretches};
 ghost use Rattle.addr2line_context.specs.Error.TheVariants.{Memory};
@@ -8,15 +11,43 @@ ghost use Rattle.addr2line_context.specs.KeptUnits.{KeepsAsked};
 ghost use Rattle.addr2line_context.specs.OwnedPlaces.{stretch_of};
 ghost use Rattle.addr2line_context.specs.RangeWalks.{stretches_left};
 ghost use Rattle.addr2line_loader.specs.ResolvedFiles.{answered_context};
-ghost use Rattle.addr2line_c.specs.Answers.{WritesPlace, GivesStretches};
+ghost use Rattle.addr2line_c.specs.Answers.{GivesStretches, LeavesNext, LeavesPlace, LendsNext, WritesPlace};
 ghost use Rattle.addr2line_c.specs.COutputs.{range_out, range_written};
+ghost use Rattle.addr2line_c.specs.Lending.{LeavesHandle};
 ghost use Rattle.addr2line_c.specs.Numbers.{IsOrNoMemory, error_number, found_number, refused_number};
 
 use crate::c_types::{A2lLocation, A2lRange};
 use crate::handle::Handle;
-use crate::numbers::{NO_ROOM, NOT_FOUND, OK, PAST_END, done_number, error_number, refused_number};
-use addr2line_context::{OwnedStretch, RangeWalk};
+use crate::numbers::{NO_ROOM, NOT_FOUND, OK, PAST_END, error_number, refused_number};
+use addr2line_context::{Error, Location, OwnedStretch, RangeWalk};
 use std::alloc::Global;
+
+impl Handle {
+    // The place of an address in the file of an open handle, which lends its text.
+    fn find_place(&mut self, address: u64) -> Result<Option<Location<'_>>, Error>
+        requires { self.old.opened ≡ 1 }
+        ensures place { ReturnsAsOrNoMemory (option_map location_value) result
+            (location self.old.file.loader.file.context.context address) }
+        ensures free { KeepsAsked
+            (AsksForPlace (answered_context self.old.file.loader.file) address)
+            self.old.file.loader.units → result ≢ Err Memory }
+        ensures* after { sem 𝓛 (LeavesHandle self.entry
+            (LeavesPlace address result self.old.file)) }
+    {
+        self.file_mut().loader.find_location(address)
+    }
+
+    // The next stretches of the walk of an open handle, no more than asked for, which it lends.
+    fn next_ranges(&mut self, alloc: Global, count: usize) -> Result<&[OwnedStretch], Error>
+        requires { self.old.opened ≡ 1 }
+        ensures stretches { LendsNext count self.old.file result }
+        ensures* after { sem 𝓛 (LeavesHandle self.entry (LeavesNext result self.old.file)) }
+    {
+        let file = self.file_mut();
+        file.next_stretches(alloc, count)?;
+        Ok(file.stretches.as_slice())
+    }
+}
 
 /// The place of an address. Its text is lent until the handle is used again.
 #[unsafe(no_mangle)]
@@ -39,7 +70,7 @@ pub extern "C" fn a2l_find_location<'a>(
     if opened != 1 {
         return refused_number(opened);
     }
-    match handle.file_mut().loader.find_location(address) {
+    match handle.find_place(address) {
         Ok(Some(place)) => {
             *out = A2lLocation::of(place);
             OK
@@ -105,15 +136,14 @@ pub extern "C" fn a2l_next_ranges<'a>(
     if out.is_empty() {
         return NO_ROOM;
     }
-    let file = handle.file_mut();
-    let done = file.next_stretches(alloc, out.len());
-    if done.is_err() {
-        return done_number(done);
-    }
-    if file.stretches.is_empty() {
+    let stretches = match handle.next_ranges(alloc, out.len()) {
+        Ok(stretches) => stretches,
+        Err(error) => return error_number(error),
+    };
+    if stretches.is_empty() {
         return PAST_END;
     }
-    write_ranges(file.stretches.as_slice(), out);
-    *count = file.stretches.len();
+    write_ranges(stretches, out);
+    *count = stretches.len();
     OK
 }

@@ -2,7 +2,7 @@
 
 ghost use Rattle.std.specs.Prelude.{◌≡◌, ◌≢◌, Some, map, option_map};
 ghost use Rattle.addr2line_c.specs.Numbers.{some_number};
-ghost use Rattle.addr2line_c.specs.RefusalTexts.{code_of, code_text, or_else, sentence_of, sentence_text, text_from};
+ghost use Rattle.addr2line_c.specs.RefusalTexts.{both, code_of, code_text, or_else, sentence_of, sentence_text, text_from, texts_of};
 
 use crate::c_types::A2lText;
 use crate::numbers::{NOT_FOUND, OK};
@@ -175,7 +175,50 @@ fn write_text(text: Option<&'static str>, out: &mut A2lText<'static>) -> i32
     }
 }
 
-/// The letter and the number of what a call returned.
+// Writes two texts, if there are both.
+fn write_texts(
+    of_code: Option<&'static str>,
+    of_sentence: Option<&'static str>,
+    code: &mut A2lText<'static>,
+    sentence: &mut A2lText<'static>,
+) -> i32
+    ensures number { result ≡ some_number (both (option_map (λ t. t.now) of_code.entry)
+        (option_map (λ t. t.now) of_sentence.entry)) NOT_FOUND }
+    ensures texts { result ≡ OK
+        → both (option_map (λ t. t.now) of_code.entry) (option_map (λ t. t.now) of_sentence.entry)
+        ≡ Some (code.new.text.now, sentence.new.text.now) }
+    ensures same { result ≢ OK → (code.new ≡ code.old) × (sentence.new ≡ sentence.old) }
+{
+    let Some(of_code) = of_code else {
+        return NOT_FOUND;
+    };
+    let Some(of_sentence) = of_sentence else {
+        return NOT_FOUND;
+    };
+    code.text = of_code.as_bytes();
+    sentence.text = of_sentence.as_bytes();
+    OK
+}
+
+/// The letter and the number of what a call returned, and a sentence that says what it means.
+#[unsafe(no_mangle)]
+pub extern "C" fn a2l_error_text(
+    number: i32,
+    code: &mut A2lText<'static>,
+    sentence: &mut A2lText<'static>,
+) -> i32
+    ensures number { result ≡ some_number (texts_of number) NOT_FOUND }
+    ensures texts { result ≡ OK
+        → texts_of number ≡ Some (code.new.text.now, sentence.new.text.now) }
+    ensures same { result ≢ OK → (code.new ≡ code.old) × (sentence.new ≡ sentence.old) }
+{
+    match u32::try_from(number) {
+        Ok(number) => write_texts(code_text(number), sentence_text(number), code, sentence),
+        Err(_) => NOT_FOUND,
+    }
+}
+
+/// The letter and the number alone.
 #[unsafe(no_mangle)]
 pub extern "C" fn a2l_error_code(number: i32, out: &mut A2lText<'static>) -> i32
     ensures number { result ≡ some_number (code_of number) NOT_FOUND }
@@ -188,7 +231,7 @@ pub extern "C" fn a2l_error_code(number: i32, out: &mut A2lText<'static>) -> i32
     }
 }
 
-/// A sentence that says what it means.
+/// The sentence alone.
 #[unsafe(no_mangle)]
 pub extern "C" fn a2l_error_sentence(number: i32, out: &mut A2lText<'static>) -> i32
     ensures number { result ≡ some_number (sentence_of number) NOT_FOUND }

@@ -93,7 +93,7 @@ pub extern "C" fn a2l_get_load<'a>(
     if opened != 1 {
         return refused_number(opened);
     }
-    let loads: &[(SplitDwarfLoad<ImageReader>, UnitToken)] = handle.file_mut().loads.as_slice();
+    let loads: &[(SplitDwarfLoad<ImageReader>, UnitToken)] = handle.file().loads.as_slice();
     match loads.get(number) {
         Some(item) => {
             *out = A2lLoad::of(&item.0);

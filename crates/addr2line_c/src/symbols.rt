@@ -1,18 +1,19 @@
 //! The symbols of addresses, and the ranges of sections.
 
-ghost use Rattle.std.specs.Prelude.{◌≡◌, ◌≢◌, ◌⊎◌, ℕ, None, Some, OnOk, IfErr};
+ghost use Rattle.std.specs.Prelude.{◌≡◌, ◌≢◌, ◌⊎◌, ℕ, None, Some, OnOk, IfOk, IfErr};
+ghost use Rattle.std.specs.Borrow.{sem};
 ghost use Rattle.std.specs.String.{string_bytes};
 ghost use Rattle.addr2line_context.specs.Error.TheVariants.{Memory};
 ghost use Rattle.addr2line_split.specs.ElfImages.{section_range};
 ghost use Rattle.addr2line_split.specs.ElfSymbols.{symbol_at};
-ghost use Rattle.addr2line_c.specs.Answers.{WritesSection, WritesSymbol};
+ghost use Rattle.addr2line_c.specs.Answers.{LendsSymbol, WritesSection, WritesSymbol};
+ghost use Rattle.addr2line_c.specs.Lending.{LeavesHandle};
 ghost use Rattle.addr2line_c.specs.Numbers.{IsOrNoMemory, error_number, refused_number, some_number};
 ghost use Rattle.addr2line_c.specs.ShownFrames.{name_text};
 
 use crate::c_types::{A2lSection, A2lSymbol};
 use crate::handle::Handle;
 use crate::numbers::{NOT_FOUND, OK, error_number, refused_number};
-use crate::open_file::OpenFile;
 use addr2line_context::Error;
 use addr2line_demangle::demangle_auto;
 use std::alloc::Global;
@@ -27,6 +28,32 @@ fn demangle_over(alloc: Global, name: &str, text: &mut String) -> Result<(), Err
     text.clear();
     text.push_str(demangled.as_str())?;
     Ok(())
+}
+
+impl Handle {
+    // The symbol that holds an address in the file of an open handle. What its name means is
+    // written over a text that the handle keeps, and lends.
+    fn demangle_symbol(
+        &mut self,
+        alloc: Global,
+        address: u64,
+    ) -> Result<Option<A2lSymbol<'_>>, Error>
+        requires { self.old.opened ≡ 1 }
+        ensures symbol { IfOk result
+            (LendsSymbol 1 (symbol_at address self.old.file.loader.file.symbols)) }
+        ensures memory { IfErr result (λ e. e ≡ Memory) }
+        ensures* after { sem 𝓛 (LeavesHandle self.entry
+            (λ left. left ≡ record self.old.file { symbol = left.symbol })) }
+    {
+        let file = self.file_mut();
+        let Some(symbol) = file.loader.find_symbol_info(address) else {
+            return Ok(None);
+        };
+        let address = symbol.address();
+        demangle_over(alloc, symbol.name(), &mut file.symbol)?;
+        let name = file.symbol.as_str().as_bytes();
+        Ok(Some(A2lSymbol { name, address }))
+    }
 }
 
 /// The symbol that holds an address. Its name is lent until the handle is used again.
@@ -50,24 +77,22 @@ pub extern "C" fn a2l_find_symbol<'a>(
     if opened != 1 {
         return refused_number(opened);
     }
-    let OpenFile {
-        loader,
-        symbol: text,
-        ..
-    } = handle.file_mut();
-    let Some(symbol) = loader.find_symbol_info(address) else {
-        return NOT_FOUND;
-    };
     if names == 0 {
+        let Some(symbol) = handle.file().loader.find_symbol_info(address) else {
+            return NOT_FOUND;
+        };
         out.name = symbol.name().as_bytes();
-    } else {
-        if let Err(error) = demangle_over(alloc, symbol.name(), text) {
-            return error_number(error);
-        }
-        out.name = text.as_str().as_bytes();
+        out.address = symbol.address();
+        return OK;
     }
-    out.address = symbol.address();
-    OK
+    match handle.demangle_symbol(alloc, address) {
+        Ok(Some(symbol)) => {
+            *out = symbol;
+            OK
+        }
+        Ok(None) => NOT_FOUND,
+        Err(error) => error_number(error),
+    }
 }
 
 /// The addresses of the first section of a name.

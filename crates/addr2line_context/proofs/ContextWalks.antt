@@ -2,7 +2,7 @@
 use Rattle.std.proofs.Common.{◌≡◌, inl, inr, List, map, take, Result, Ok, Err, refl, sym, ap, ◌∙◌, subst}
 use Rattle.std.proofs.lemmas.Simd.{map-map}
 use Rattle.addr2line_lookups.specs.Error.{Error}
-use Rattle.addr2line_lookups.specs.Results.{and_then, each}
+use Rattle.addr2line_lookups.specs.Results.{and_then, each, refusal_of}
 use Rattle.addr2line_lookups.specs.DwarfFiles.{DwarfFile}
 use Rattle.addr2line_lookups.specs.UnitFacts.{UnitFacts, in_file}
 use Rattle.addr2line_lookups.specs.FirstAnswers.{FirstAnswer}
@@ -16,7 +16,7 @@ use Rattle.addr2line_lookups.specs.KeptCalls.{known_among}
 use Rattle.addr2line_lookups.specs.ResolvedUnits.{AnsweredUnit, ResolvedUnit, value_of_unit, plain_unit, first_answer, functions_under, unit_of_functions}
 use Rattle.addr2line_lookups.proofs.NewUnits.{unit_of}
 use Rattle.addr2line_lookups.specs.AnsweredUnits.{AreOfFile, answers_of}
-use Rattle.addr2line_lookups.specs.UnitParses.{check_functions_of, check_calls_of, refusal_of, WalksOrNoMemory}
+use Rattle.addr2line_lookups.specs.UnitParses.{check_functions_of, check_calls_of, WalksOrNoMemory}
 use Rattle.addr2line_lookups.proofs.CallsLeft.{known_by_units}
 use Rattle.addr2line_lookups.proofs.ContextOfUnits.{context_of_units}
 use Rattle.addr2line_lookups.proofs.UnitWalks.{Walked, plain_walked, same_file_left}

@@ -2,13 +2,9 @@ pub use Rattle.addr2line_lookups.specs.UnitLookups
 pub use Rattle.addr2line_lookups.specs.LookupCosts
 pub use Rattle.addr2line_lookups.specs.BorrowedFrames
 pub use Rattle.addr2line_lookups.specs.UnitParses
-pub use Rattle.addr2line_lookups.specs.KeptCalls
 pub use Rattle.addr2line_lookups.specs.Calls
-pub use Rattle.addr2line_lookups.specs.KeptFunctions
 pub use Rattle.addr2line_lookups.specs.UnitFacts
 pub use Rattle.addr2line_lookups.specs.ContextNames
-pub use Rattle.addr2line_lookups.specs.FunctionNames
-pub use Rattle.addr2line_lookups.specs.EntryReferences
 pub use Rattle.addr2line_lookups.specs.BorrowedLocations
 pub use Rattle.addr2line_lookups.specs.Stretches
 pub use Rattle.addr2line_lookups.specs.StretchesLeft
@@ -39,11 +35,9 @@ pub use Rattle.addr2line_lookups.specs.Repetition
 pub use Rattle.addr2line_lookups.specs.View
 pub use Rattle.addr2line_lookups.specs.DwarfFileType
 pub use Rattle.addr2line_lookups.specs.Error
-pub use Rattle.addr2line_lookups.specs.RunTimeEndian
 pub use Rattle.addr2line_lookups.specs.SectionLoading
 pub use Rattle.addr2line_lookups.specs.DwarfFiles
 pub mod MainFiles
-pub use Rattle.addr2line_lookups.specs.ContextUnits
 pub use Rattle.addr2line_lookups.specs.ResolvedUnits
 pub use Rattle.addr2line_lookups.specs.KeptUnits
 pub use Rattle.addr2line_lookups.specs.RangeWalks

@@ -1,4 +1,4 @@
--- Places and stretches as copies, and what they stand for.
+-- Places and stretches as copies, and the values that these hold.
 use Rattle.std.specs.Prelude.{◌≡◌, option_map, Result, Ok, Err}
 use Rattle.std.specs.String.{string_bytes}
 use Rattle.addr2line_lookups.specs.Error.{Error}
@@ -12,7 +12,7 @@ abbrev pub CopiesOrNoMemory : {A B : Type 0} → (A → B) → Result A Error �
 CopiesOrNoMemory see (Ok x) value = see x ≡ value
 CopiesOrNoMemory see (Err e) value = e ≡ Memory
 
--- the place that a copy stands for
+-- the place that a copy holds
 abbrev pub location_of : OwnedLocation → Location
 location_of l =
     record {
@@ -23,7 +23,7 @@ location_of l =
       discriminator = l.discriminator;
     }
 
--- the stretch that a copy stands for
+-- the stretch that a copy holds
 abbrev pub stretch_of : OwnedStretch → Stretch
 stretch_of s =
     record { address = s.address; length = s.length; location = location_of s.location }

@@ -19,14 +19,12 @@ pub mod unit_loads;
 pub mod walk_laws;
 
 pub use addr2line_lookups::{
-    AbbreviationsCache, AbbreviationsCacheStrategy, ArangeIndex, AttributeValue, DW_LANG_Rust,
-    DebugAbbrev, DebugAbbrevOffset, DebugAddrIndex, DebugLineStrOffset, DebugRngListsIndex,
-    DebugStrOffset, DebugStrOffsetsIndex, DwLang, Dwarf, DwarfFileType, DwoId, EndianBytes,
-    EndianSlice, Error, Format, Frame, FrameIter, FunctionName, Lines, LinesBuilder, LittleEndian,
-    Location, LocationLists, Range, RangeLists, RangeListsOffset, RangeWalk, RawRangeListsOffset,
-    Reader, ReaderOffsetId, ResUnit, RunTimeEndian, Runs, SectionId, SplitDwarfLoad, Unit,
-    UnitLines, UnitOffset, UnitRef, UnitRoot, UnitStretch, UnitToken, file_text,
-    file_text_of_bytes, is_rooted, join, language_of, ranges_of_attributes,
+    AbbreviationsCache, AbbreviationsCacheStrategy, AttributeValue, DebugAbbrev, DebugAbbrevOffset,
+    DebugAddrIndex, DebugLineStrOffset, DebugRngListsIndex, DebugStrOffset, DebugStrOffsetsIndex,
+    DwLang, Dwarf, DwarfFileType, DwoId, EndianBytes, EndianSlice, Error, Format, Frame, FrameIter,
+    FunctionName, LittleEndian, Location, LocationLists, Range, RangeLists, RangeListsOffset,
+    RangeWalk, RawRangeListsOffset, Reader, RunTimeEndian, Runs, SectionId, SplitDwarfLoad, Unit,
+    UnitLines, UnitOffset, UnitRef, UnitStretch, UnitToken, file_text,
 };
 pub use context::Context;
 pub use find_frames::FindFrames;

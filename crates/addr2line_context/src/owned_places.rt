@@ -16,7 +16,7 @@ pub struct OwnedLocation {
     pub file: Option<String>,
     /// The line, from 1 on.
     pub line: Option<u32>,
-    /// The column, from 1 on; 0 stands for the left edge.
+    /// The column, from 1 on; 0 is the left edge.
     pub column: Option<u32>,
     /// Whether a statement begins there.
     pub statement: Option<bool>,

@@ -16,7 +16,6 @@ pub mod search;
 pub mod standard_numbers;
 pub mod system_files;
 
-pub use addr2line_elf::{Elf, LoadError};
 pub use candidates::{Candidate, Identity, debug_file_names, supplement_names};
 pub use checksum::crc32;
 pub use debug_files::{DebugFiles, find_debug_files};

@@ -1,5 +1,5 @@
 -- Section headers read from the bytes of their entries, as they are or with fields written anew.
-use Rattle.std.proofs.Common.{◌≡◌, ℕ, ◌+◌, ◌*◌, ◌≤◌, Bool, cond, List, [], ◌∷◌, ◌++◌, length, take, drop, Result, Ok, Err, refl, sym, ap, subst, ◌∙◌, arith, length-drop}
+use Rattle.std.proofs.Common.{◌≡◌, ℕ, ◌+◌, ◌≤◌, Bool, cond, List, [], ◌∷◌, ◌++◌, length, take, drop, Result, Ok, Err, refl, sym, ap, subst, ◌∙◌, arith, length-drop}
 use Rattle.std.proofs.lemmas.Bool.{le-ltb}
 use Rattle.std.proofs.lemmas.List.{length-append, length-take, take-append-drop, take_at}
 use Rattle.gimli_core_readers.specs.Error.{Error}
@@ -12,8 +12,8 @@ use Rattle.gimli_lines_write_bytes.proofs.PrefixReads.{after_is}
 use Rattle.gimli_lines_write_bytes.proofs.FollowedReads.{Again, again_nothing, again_onward}
 use Rattle.addr2line_elf.specs.declared.class.Class.{Class}
 use Rattle.addr2line_elf.specs.declared.class.Class.TheVariants.{Elf32, Elf64}
-use Rattle.addr2line_elf.specs.ElfClasses.{word_size, section_header_size}
-use Rattle.addr2line_elf.specs.ElfHeaders.{file_header, section_header}
+use Rattle.addr2line_elf.specs.ElfClasses.{word_size}
+use Rattle.addr2line_elf.specs.ElfHeaders.{file_header}
 use Rattle.addr2line_decompress.specs.ImageTables.{file_header_size}
 
 -- ---- a number of bytes that is skipped, or read as a number
@@ -103,19 +103,3 @@ determined_file_header class =
     determined_onward 10 _ (determined_skip 10) (λ g. determined_onward 2 _ (determined_fixed 2) (λ h.
     determined_onward 2 _ (determined_fixed 2) (λ i. determined_onward 2 _ (determined_fixed 2) (λ j.
     determined_give _)))))))))))
-
-entry_sum : (class : Class) (w : ℕ) → word_size class ≡ w
-    → 4 + (4 + (w + (w + (w + (w + (4 + (4 + (2 * w + 0)))))))) ≡ section_header_size class
-entry_sum Elf32 w is = omega arith
-entry_sum Elf64 w is = omega arith
-
-pub determined_section_header : (class : Class) → Determined (section_header_size class) (section_header class)
-unfolding section_header
-determined_section_header class =
-    let w : ℕ = word_size class in
-    same_size _ _ (entry_sum class w refl)
-    (determined_onward 4 _ (determined_fixed 4) (λ a. determined_onward 4 _ (determined_fixed 4) (λ b.
-    determined_onward w _ (determined_fixed w) (λ c. determined_onward w _ (determined_fixed w) (λ d.
-    determined_onward w _ (determined_fixed w) (λ e. determined_onward w _ (determined_fixed w) (λ f.
-    determined_onward 4 _ (determined_fixed 4) (λ g. determined_onward 4 _ (determined_fixed 4) (λ h.
-    determined_onward (2 * w) _ (determined_skip (2 * w)) (λ i. determined_give _))))))))))

@@ -22,7 +22,7 @@ use Rattle.addr2line_elf.specs.ElfClasses.{section_header_size}
 use Rattle.addr2line_elf.specs.ElfHeaders.{file_header, section_header, header_at, headers_at}
 use Rattle.addr2line_elf.specs.ImageLoading.{or_truncated, read_in}
 use Rattle.addr2line_elf.specs.ElfSymbols.{symbol_table}
-use Rattle.addr2line_elf.specs.ElfImages.{Image, Identification, identification, Sections, section_count, names_index, contents, contents_of, linked_contents, sections_of, image_of, image_in}
+use Rattle.addr2line_elf.specs.ElfImages.{Image, Identification, identification, Sections, section_count, names_index, contents, contents_of, linked_contents, sections_of, image_of, image_in, image_with_headers}
 use Rattle.addr2line_decompress.specs.declared.error.DecompressError.TheVariants.{SectionCut, OverlappingSection, CompressedNames, SharedNames}
 use Rattle.addr2line_decompress.specs.declared.sections.DebugSections.{DebugSections}
 use Rattle.addr2line_decompress.specs.DecompressResults.{refuse_if}
@@ -549,10 +549,4 @@ module _ (which : DebugSections) (class : Class) (is_big : Bool) (file : List �
           ∙ ap (of_sections header) sections_after
         where
           of_sections : FileHeader → Result Sections LoadError → Result Image LoadError
-          of_sections f r = r >>= λ s. Ok (record {
-            file = view_after;
-            class = class;
-            file_type = f.file_type;
-            sections = s.headers;
-            names = s.names;
-          })
+          of_sections f r = r >>= λ s. Ok (image_with_headers class view_after f s)

@@ -1,11 +1,8 @@
 -- Results for each section, one after the other, in a loop.
-use Rattle.std.proofs.Common.{◌≡◌, ℕ, ◌+◌, ◌*◌, ◌<◌, ◌≤◌, ◌^◌, List, [], ◌∷◌, ◌++◌, length, drop, get_or, flat_map, nat_lt, unwrap_or, Option, Some, None, Result, Ok, Err, refl, sym, ap, ◌∙◌, arith, append_assoc, append-nil}
+use Rattle.std.proofs.Common.{◌≡◌, ℕ, ◌+◌, ◌<◌, List, [], ◌∷◌, ◌++◌, length, drop, get_or, flat_map, nat_lt, unwrap_or, Option, Some, None, Result, Ok, Err, refl, sym, ap, ◌∙◌, append_assoc, append-nil}
 use Rattle.gimli_core_readers.specs.Results.{and_then, some_of}
 use Rattle.addr2line_inflate.specs.Streams.{inflated}
-use Rattle.addr2line_elf.specs.declared.class.Class.{Class}
-use Rattle.addr2line_elf.specs.declared.class.Class.TheVariants.{Elf32, Elf64}
-use Rattle.addr2line_elf.specs.ElfClasses.{section_header_size}
-use Rattle.std.proofs.lemmas.List.{length-append, drop_more}
+use Rattle.std.proofs.lemmas.List.{drop_more}
 use Rattle.std.proofs.lemmas.List.Concat.{flat_map-append}
 use Rattle.addr2line_decompress.specs.declared.error.DecompressError.{DecompressError}
 use Rattle.addr2line_decompress.specs.declared.error.DecompressError.TheVariants.{OverlappingHeaders}
@@ -13,10 +10,9 @@ use Rattle.addr2line_decompress.specs.declared.sections.DebugSections.{DebugSect
 use Rattle.addr2line_decompress.specs.DecompressResults.{refuse_if, or_stream}
 use Rattle.addr2line_decompress.specs.Compression.{Content, Change}
 use Rattle.addr2line_decompress.specs.ImageTables.{ImageTable, file_header_size}
-use Rattle.addr2line_decompress.specs.CompressedSections.{text_from, added_names, with_added, new_names, names_start, refuse_new_names, Section, refuse_all_names, sections_from, text_of, text_if_any, texts_from}
+use Rattle.addr2line_decompress.specs.CompressedSections.{text_from, new_names, names_start, refuse_new_names, Section, refuse_all_names, sections_from, text_of, text_if_any, texts_from}
 use Rattle.addr2line_decompress.specs.DecompressedBytes.{text_bytes, bytes_after, SectionTexts, texts_if_small, with_texts, new_image, new_image_if_any, decompressed}
 use Rattle.addr2line_decompress.specs.WrittenBytes.{ImageBytes, append}
-use Rattle.addr2line_decompress.proofs.KeptNames.{fits}
 
 -- further items in front of those that follow
 abbrev pub prepend : {A : Type 0} → List A → Result (List A) DecompressError → Result (List A) DecompressError
@@ -43,27 +39,12 @@ item_more {A} xs x r rest all is so_far =
     sym (one_more xs x rest)
     ∙ ap (λ (q : Result A DecompressError). prepend xs (cons_all q rest)) (sym is) ∙ so_far
 
-pub item_refused : {A : Type 0} (xs : List A) (e : DecompressError) (r : Result A DecompressError)
-    (rest all : Result (List A) DecompressError) → r ≡ Err e → prepend xs (cons_all r rest) ≡ all → all ≡ Err e
-item_refused {A} xs e r rest all is so_far =
-    sym so_far ∙ ap (λ (q : Result A DecompressError). prepend xs (cons_all q rest)) is
-
 pub no_more : {A : Type 0} (xs : List A) (all : Result (List A) DecompressError) → prepend xs (Ok []) ≡ all
     → all ≡ Ok xs
 no_more {A} xs all so_far = sym so_far ∙ ap ok (append-nil xs)
   where
     ok : List A → Result (List A) DecompressError
     ok zs = Ok zs
-
--- where the entry of an index is, in a file that has room for all of them
-pub record EntryRoom (size start index len : ℕ) : Type 0 where
-  pub start_in : index * size ≤ len
-  pub end_in : start + index * size + size ≤ len
-
-pub entry_room : (class : Class) (start index count len : ℕ) → index < count
-    → start + count * section_header_size class ≤ len → EntryRoom (section_header_size class) start index len
-entry_room Elf32 start index count len below room = record { start_in = omega arith; end_in = omega arith }
-entry_room Elf64 start index count len below room = record { start_in = omega arith; end_in = omega arith }
 
 -- a further text, in front of those that are left
 pub texts_more : (sections : List Section) (i : ℕ) (s : Section) (texts : List (Option (List ℕ)))
@@ -128,25 +109,6 @@ new_image_is which table names start sections apart stay names_are fit start_is 
         ≡ and_then r (λ ts. Ok (bytes_after table sections ts))
     flatten (Ok ts) = refl
     flatten (Err e) = refl
-
-some_text : (x y : List ℕ) → Some x ≡ Some y → x ≡ y
-some_text x y is = cc
-
--- new names have offsets of 32 bits
-pub low_names : (which : DebugSections) (table : ImageTable) (names : Option (List ℕ))
-    → new_names which table.image ≡ names → refuse_new_names table names ≡ Ok tt
-    → names_start table.image names + length (added_names which table.image 0 table.image.sections) < 2 ^ 32
-low_names which table names are fit = of names (added_names which table.image 0 table.image.sections) are fit
-  where
-    of : (o : Option (List ℕ)) (added : List ℕ) → with_added table.image.names.bytes added ≡ o
-        → refuse_new_names table o ≡ Ok tt → names_start table.image o + length added < 2 ^ 32
-    of None [] is fit = omega arith
-    of None (b ∷ bs) is fit = absurd cc
-    of (Some n) [] is fit = absurd cc
-    of (Some n) (b ∷ bs) is fit =
-        let whole : table.image.names.bytes ++ b ∷ bs ≡ n = some_text (table.image.names.bytes ++ b ∷ bs) n is in
-        let low = fits table n fit in
-        omega (arith, length-append table.image.names.bytes (b ∷ bs), ap length whole)
 
 -- an element, and those after it
 pub split_at : {A : Type 0} (xs : List A) (i : ℕ) (x : A) → i < length xs → x ≡ get_or xs i x

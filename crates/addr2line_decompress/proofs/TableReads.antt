@@ -21,7 +21,7 @@ use Rattle.addr2line_elf.specs.declared.headers.SectionHeader.{SectionHeader}
 use Rattle.addr2line_elf.specs.ElfClasses.{word_size, section_header_size}
 use Rattle.addr2line_elf.specs.ElfHeaders.{file_header, section_header, header_at, headers_at}
 use Rattle.addr2line_elf.specs.ImageLoading.{or_truncated, read_in, LoadsAsOrNoMemory}
-use Rattle.addr2line_elf.specs.ElfImages.{Image, Identification, identification, Sections, section_count, names_index, linked_contents, table, sections_of, image_in, image_of}
+use Rattle.addr2line_elf.specs.ElfImages.{Image, Identification, identification, Sections, section_count, names_index, linked_contents, table, sections_of, image_in, image_of, image_with_headers}
 use Rattle.addr2line_decompress.specs.ImageTables.{ImageTable, table_of, file_bytes, table_end}
 use Rattle.addr2line_decompress.proofs.EntryChanges.{header_of, entry_again}
 
@@ -179,17 +179,8 @@ pub record Parts (file : List ℕ) (image : Image) : Type 0 where
       ≡ Ok (record { headers = image.sections; names = image.names })
   pub type_is : header.file_type ≡ image.file_type
 
-abbrev image_with : Class → View → FileHeader → Sections → Image
-image_with class view header s = record {
-  file = view;
-  class = class;
-  file_type = header.file_type;
-  sections = s.headers;
-  names = s.names;
-}
-
 abbrev image_after : Class → View → FileHeader → Result Sections LoadError → Result Image LoadError
-image_after class view header r = r >>= λ s. Ok (image_with class view header s)
+image_after class view header r = r >>= λ s. Ok (image_with_headers class view header s)
 
 module _ (file : List ℕ) (image : Image) where
   of_sections : (id : Identification) (header : FileHeader) (r : Result Sections LoadError)
@@ -197,7 +188,7 @@ module _ (file : List ℕ) (image : Image) where
       → sections_of id.class header (bytes_at id.is_big 0 file) ≡ r
       → image_after id.class (bytes_at id.is_big 0 file) header r ≡ Ok image → Parts file image
   of_sections id header (Ok s) identified header_is sections_are is =
-      let same : image_with id.class (bytes_at id.is_big 0 file) header s ≡ image = cc in
+      let same : image_with_headers id.class (bytes_at id.is_big 0 file) header s ≡ image = cc in
       subst (λ (i : Image). Parts file i) same
       (record {
         header = header;

@@ -4,11 +4,12 @@ use Rattle.std.specs.List.{starts_with, list_any}
 use Rattle.std.specs.Cmp.Lexicographic.{pointwise}
 use Rattle.gimli_core_readers.specs.SectionId.{SectionId}
 use Rattle.gimli_core_readers.specs.SectionNames.{name_of, dwo_name_of}
+use Rattle.addr2line_elf.specs.declared.debug.TheConstants.{READ}
 use Rattle.addr2line_elf.specs.ElfTexts.{is_text}
 use Rattle.addr2line_elf.specs.ElfDebugSections.{is_read, is_read_split}
 use Rattle.addr2line_decompress.specs.declared.sections.DebugSections.{DebugSections}
 use Rattle.addr2line_decompress.specs.declared.sections.DebugSections.TheVariants.{All, Lookups}
-use Rattle.addr2line_decompress.specs.declared.sections.TheConstants.{READ, READ_SPLIT}
+use Rattle.addr2line_decompress.specs.declared.sections.TheConstants.{READ_SPLIT}
 
 -- the name of a section of debugging information
 abbrev pub is_debug_name : List ℕ → Bool

@@ -1,4 +1,3 @@
-pub use Rattle.addr2line_elf.specs.ElfImages
 pub mod ErrorText
 pub mod DecompressResults
 pub mod DebugSectionNames
@@ -9,3 +8,4 @@ pub mod DecompressedBytes
 pub mod WrittenBytes
 pub mod Decompression
 pub mod StandardNumbers
+pub use Rattle.addr2line_inflate.specs.StandardNumbers as ZlibNumbers

@@ -8,7 +8,7 @@ CompressionNumbers =
     (ELFCOMPRESS_ZLIB ≡ 1)
     × (ELFCOMPRESS_ZSTD ≡ 2)
 
--- The most bytes that one byte of a stream stands for: the longest copy has 258, and takes two bits
--- at least, one for its length and one for its distance (RFC 1951, 3.2.5).
+-- The most bytes of the text that one byte of a stream holds: the longest copy has 258, and takes
+-- two bits at least, one for its length and one for its distance (RFC 1951, 3.2.5).
 abbrev pub GrowthNumbers : Type 0
 GrowthNumbers = MOST_OF_ONE_BYTE ≡ 258 * (8 / (1 + 1))

@@ -12,6 +12,7 @@ pub mod standard_numbers;
 mod streams;
 pub mod table;
 
+pub use addr2line_inflate::{InflateError, standard_numbers as zlib_numbers};
 pub use decompress::{decompressed, decompressed_sections};
 pub use error::DecompressError;
 pub use sections::DebugSections;

@@ -7,6 +7,7 @@ ghost use Rattle.gimli_core_readers.specs.SectionNames.{name_of, dwo_name_of};
 ghost use Rattle.addr2line_elf.specs.ElfTexts.{is_text};
 ghost use Rattle.addr2line_decompress.specs.DebugSectionNames.{is_debug_name, is_lookup_name, is_among, is_old_name, new_name, LookupsReadThem};
 
+use addr2line_elf::debug::READ;
 use gimli_core_readers::SectionId;
 use std::alloc::{AllocError, Global};
 
@@ -16,23 +17,9 @@ pub enum DebugSections {
     /// All whose names begin with `.debug_` or `.zdebug_`.
     All,
     /// Those that lookups of addresses read. In GNU's old form, with a name `.zdebug_..`, a section
-    /// is among them if the one that it stands for, `.debug_..`, is.
+    /// is among them if the one of the name without the `z` is.
     Lookups,
 }
-
-/// The sections of a main file that lookups read.
-pub const READ: [SectionId; 10] = [
-    SectionId::DebugAbbrev,
-    SectionId::DebugAddr,
-    SectionId::DebugAranges,
-    SectionId::DebugInfo,
-    SectionId::DebugLine,
-    SectionId::DebugLineStr,
-    SectionId::DebugRanges,
-    SectionId::DebugRngLists,
-    SectionId::DebugStr,
-    SectionId::DebugStrOffsets,
-];
 
 /// The sections of a split file that lookups read.
 pub const READ_SPLIT: [SectionId; 6] = [

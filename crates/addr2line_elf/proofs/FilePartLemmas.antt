@@ -191,6 +191,9 @@ pub has_whole : (bytes : List ℕ)
 has_whole bytes =
     has_push (length bytes) [] (whole_part bytes) (omega arith) refl (has_none (length bytes))
 
+-- what is known of a file that is one part
+pub ruleset whole_file = (whole_is, has_whole)
+
 -- ---- a part that has the bytes of a range
 
 pub found : (offset size : ℕ) (bytes : List ℕ) (p : FilePart) (ps : List FilePart)
@@ -261,17 +264,6 @@ all_in_range bytes =
     given xs = Ok xs
 
 -- ---- reads
-
--- the bytes of a range, as a part
-pub range_is_there : (bytes part : List ℕ) (offset size : ℕ) → offset + size ≤ length bytes
-    → part ≡ take size (drop offset bytes) → IsThere bytes (record { offset = offset; bytes = part })
-range_is_there bytes part offset size within is =
-    let long : size ≤ length (drop offset bytes) = omega (arith, length-drop offset bytes) in
-    let count : length part ≡ size = ap length is ∙ length-take-le size (drop offset bytes) long in
-    record {
-      within = omega (arith, count);
-      same = ap (λ (n : ℕ). take n (drop offset bytes)) count ∙ sym is;
-    }
 
 pub are_there_push : (bytes : List ℕ) (ps : List FilePart) (p : FilePart) → AreThere bytes ps → IsThere bytes p
     → AreThere bytes (ps ++ p ∷ [])

@@ -20,7 +20,7 @@ use Rattle.addr2line_elf.specs.declared.headers.SectionHeader.{SectionHeader}
 use Rattle.addr2line_elf.specs.ElfClasses.{file_header_size, section_header_size}
 use Rattle.addr2line_elf.specs.ElfDebugSections.{is_read, main_section}
 use Rattle.addr2line_elf.specs.ElfHeaders.{file_header, section_header, header_at, headers_at}
-use Rattle.addr2line_elf.specs.ElfImages.{Identification, identification, Image, image_in, image_of, contents, contents_of, linked_contents, index_named, waits_for_relocation, debug_contents, section_at, section_count, names_index, Sections, sections_of, table}
+use Rattle.addr2line_elf.specs.ElfImages.{Identification, identification, Image, image_in, image_of, image_with_headers, contents, contents_of, linked_contents, index_named, waits_for_relocation, debug_contents, section_at, section_count, names_index, Sections, sections_of, table}
 use Rattle.addr2line_elf.specs.ElfSymbols.{NamedSymbol, symbol_table, symbols_at, symbols_in}
 use Rattle.addr2line_elf.specs.FileParts.{covers, has, range_in, AreThere, PartialFile}
 use Rattle.addr2line_elf.specs.ImageLoading.{read_in, bytes_at}
@@ -243,18 +243,10 @@ module _ (ps : List FilePart) (a b : List ℕ) (len : length a ≡ length b) (in
 
     -- ---- images
 
-    abbrev made : View → Class → FileHeader → Sections → Image
-    made v class header sections = record {
-      file = v;
-      class = class;
-      file_type = header.file_type;
-      sections = sections.headers;
-      names = sections.names;
-    }
-
     covers_by : (class : Class) (header : FileHeader) (sections : Sections) (first : SectionHeader)
         → read_in vb (header_at class header.table_offset) ≡ Ok first
-        → covers_table_by (read_in vb (header_at class header.table_offset)) header (made vb class header sections) file
+        → covers_table_by (read_in vb (header_at class header.table_offset)) header
+        (image_with_headers class vb header sections) file
         ≡ true
         → CoversBy class header sections.headers first
     covers_by class header sections first is it =
@@ -262,11 +254,12 @@ module _ (ps : List FilePart) (a b : List ℕ) (len : length a ≡ length b) (in
         (covers header.table_offset (section_count header first * section_header_size class) file)
         (covers_linked (names_index header first) sections.headers file)
         (sym (ap (λ (r : Result SectionHeader LoadError).
-        covers_table_by r header (made vb class header sections) file) is)
+        covers_table_by r header (image_with_headers class vb header sections) file) is)
         ∙ it)
 
     sections_alike : (class : Class) (header : FileHeader) (sections : Sections)
-        → sections_of class header vb ≡ Ok sections → covers_table header (made vb class header sections) file ≡ true
+        → sections_of class header vb ≡ Ok sections
+        → covers_table header (image_with_headers class vb header sections) file ≡ true
         → sections_of class header va ≡ Ok sections
     sections_alike class header sections is it =
         at (eqb header.table_offset 0) (eqb header.entry_size (section_header_size class)) refl is
@@ -281,7 +274,7 @@ module _ (ps : List FilePart) (a b : List ℕ) (len : length a ≡ length b) (in
         rest_covered : Bool
         rest_covered =
             covers_table_by (read_in vb (header_at class header.table_offset)) header
-            (made vb class header sections) file
+            (image_with_headers class vb header sections) file
 
         both : eqb header.table_offset 0 ≡ false → (first_covered ≡ true) × (rest_covered ≡ true)
         both some = in_table (or_cases (eqb header.table_offset 0) (first_covered && rest_covered) it)
@@ -303,11 +296,11 @@ module _ (ps : List FilePart) (a b : List ℕ) (len : length a ≡ length b) (in
     record BothImages (class : Class) (image : Image) : Type 0 where
       pub header : FileHeader
       pub sections : Sections
-      pub first : image_in class va ≡ Ok (made va class header sections)
-      pub second : made vb class header sections ≡ image
+      pub first : image_in class va ≡ Ok (image_with_headers class va header sections)
+      pub second : image_with_headers class vb header sections ≡ image
 
     abbrev image_with : View → Class → FileHeader → Sections → Result Image LoadError
-    image_with v class header sections = Ok (made v class header sections)
+    image_with v class header sections = Ok (image_with_headers class v header sections)
 
     abbrev image_by : View → Class → FileHeader → Result Image LoadError
     image_by v class header = and_then (sections_of class header v) (image_with v class header)
@@ -321,13 +314,13 @@ module _ (ps : List FilePart) (a b : List ℕ) (len : length a ≡ length b) (in
             → and_then r (image_with vb class header) ≡ Ok image → BothImages class image
         at_sections header header_is (Err e) r_is eq = absurd cc
         at_sections header header_is (Ok sections) r_is eq =
-            let same : made vb class header sections ≡ image = cc in
+            let same : image_with_headers class vb header sections ≡ image = cc in
             let all = subst (λ (i : Image). covers_headers i file ≡ true) (sym same) it in
             let parts =
             and_parts (covers 0 (file_header_size class) file)
-            (covers_table header (made vb class header sections) file)
+            (covers_table header (image_with_headers class vb header sections) file)
             (sym (ap (λ (r : Result FileHeader LoadError).
-            covers_headers_by r (made vb class header sections) file) header_is)
+            covers_headers_by r (image_with_headers class vb header sections) file) header_is)
             ∙ all) in
             record {
               header = header;
@@ -349,10 +342,10 @@ module _ (ps : List FilePart) (a b : List ℕ) (len : length a ≡ length b) (in
 
     module _ (class : Class) (header : FileHeader) (sections : Sections) where
       abbrev ia : Image
-      ia = made va class header sections
+      ia = image_with_headers class va header sections
 
       abbrev ib : Image
-      ib = made vb class header sections
+      ib = image_with_headers class vb header sections
 
       debug_alike : (index : ℕ) (o : Option SectionHeader) → covers_section o file ≡ true
           → debug_contents index o ia ≡ debug_contents index o ib
@@ -399,7 +392,8 @@ module _ (ps : List FilePart) (a b : List ℕ) (len : length a ≡ length b) (in
       images_alike : covers_sections ib file ≡ true → AlikeImages ia ib
       images_alike it =
           let last =
-          and_parts (list_all (λ id. covers_named (name_of id) ib file) read_ids && covers_named (codes ".symtab") ib file)
+          and_parts
+          (list_all (λ id. covers_named (name_of id) ib file) read_ids && covers_named (codes ".symtab") ib file)
           (covers_symbols (symbol_table sections.headers) ib file) it in
           let first = and_parts (list_all (λ id. covers_named (name_of id) ib file) read_ids)
           (covers_named (codes ".symtab") ib file) last.0 in
@@ -451,11 +445,11 @@ module _ (ps : List FilePart) (a b : List ℕ) (len : length a ≡ length b) (in
       sym (ap (λ (r : Result Identification LoadError). and_then r (image_from b)) is) ∙ has.is_image in
       let both = both_images id.is_big id.class has.image made_of has.headers in
       let covered = subst (λ (i : Image). covers_sections i file ≡ true) (sym both.second) has.sections in
-      let second : image_from b id ≡ Ok (made id.is_big (vb id.is_big) id.class both.header both.sections) =
+      let second : image_from b id ≡ Ok (image_with_headers id.class (vb id.is_big) both.header both.sections) =
       made_of ∙ sym (ap (λ (i : Image). ok_image i) both.second) in
       subst (λ (r : Result Image LoadError). AreAlike r (image_from b id)) (sym both.first)
       (subst (λ (r : Result Image LoadError).
-      AreAlike (Ok (made id.is_big (va id.is_big) id.class both.header both.sections)) r) (sym second)
+      AreAlike (Ok (image_with_headers id.class (va id.is_big) both.header both.sections)) r) (sym second)
       (images_alike id.is_big id.class both.header both.sections covered))
     where
       ok_image : Image → Result Image LoadError

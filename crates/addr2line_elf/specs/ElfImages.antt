@@ -111,17 +111,21 @@ pub record Image : Type 0 where
   pub sections : List SectionHeader
   pub names : View
 
+-- the image with this header and these sections
+abbrev pub image_with_headers : Class → View → FileHeader → Sections → Image
+image_with_headers class file header sections = record {
+  file = file;
+  class = class;
+  file_type = header.file_type;
+  sections = sections.headers;
+  names = sections.names;
+}
+
 abbrev pub image_in : Class → View → Result Image LoadError
 image_in class file = do
   header ← read_in file (file_header class)
   sections ← sections_of class header file
-  Ok (record {
-    file = file;
-    class = class;
-    file_type = header.file_type;
-    sections = sections.headers;
-    names = sections.names;
-  })
+  Ok (image_with_headers class file header sections)
 
 -- the image of a file, or why it is refused
 abbrev pub image_of : List ℕ → Result Image LoadError

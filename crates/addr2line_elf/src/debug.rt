@@ -8,8 +8,8 @@ use crate::elf::Elf;
 use crate::error::LoadError;
 use gimli_core_readers::{EndianBytes, RunTimeEndian, SectionId};
 
-// The sections of a main file that lookups read.
-pub(crate) const READ: [SectionId; 10] = [
+/// The sections of a main file that lookups read.
+pub const READ: [SectionId; 10] = [
     SectionId::DebugAbbrev,
     SectionId::DebugAddr,
     SectionId::DebugAranges,

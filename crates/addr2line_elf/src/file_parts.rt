@@ -137,7 +137,7 @@ impl FileParts {
     ghost use Rattle.std.specs.Prelude.{◌≡◌};
 
     /// All bytes of a file, which it shares. Takes memory for a list of one part.
-    #[tactic(auto, using(crate::proofs::FilePartLemmas::whole_is, crate::proofs::FilePartLemmas::has_whole))]
+    #[tactic(auto, using(crate::proofs::FilePartLemmas::whole_file))]
     pub fn whole(alloc: Global, bytes: Bytes) -> Result<FileParts, AllocError>
         ensures bytes { IfOk result (λ file. file.bytes ≡ bytes) }
         ensures whole { IfOk result IsWhole }
@@ -241,8 +241,8 @@ impl FileParts {
         Ok(())
     }
 
-    // The bytes of a range, lent. Takes no memory. Refused are a file that ends before the range, as
-    // `Truncated`, and bytes that are not in memory, as `Memory`.
+    // The bytes of a range, lent. Takes no memory. Refused are a file that ends before the range,
+    // as `Truncated`, and bytes that are not in memory, as `Memory`.
     pub(crate) fn slice(&self, offset: u64, size: u64) -> Result<&[u8], LoadError>
         ensures bytes { LoadsAsOrNoMemory (λ bytes. bytes.now) result
             (range_in offset size self.now.bytes) }

@@ -5,7 +5,7 @@
 pub mod class;
 pub mod constants;
 mod coverage;
-mod debug;
+pub mod debug;
 pub mod elf;
 pub mod error;
 pub mod file_parts;

@@ -47,9 +47,10 @@ impl FileRange {
 }
 
 /// Reads what a loader needs of a file with a number of bytes, `len`: its headers, the sections of
-/// debugging information that lookups read, the symbols and their names, each once, as a part of its
-/// own. None where the loader needs all of the file: where such ranges overlap in part, or where the
-/// headers can't be followed. A file that is shorter than a file header isn't read for that.
+/// debugging information that lookups read, the symbols and their names, each once, as a part of
+/// its own. None where the loader needs all of the file: where such ranges overlap in part, or
+/// where the headers can't be followed. A file that is shorter than a file header isn't read for
+/// that.
 pub fn read_needed<S: PartSource>(
     alloc: Global,
     source: &mut S,
@@ -89,7 +90,9 @@ fn read_into<S: PartSource>(
     }
 }
 
-// Reads the parts of an ELF file, after the header.
+// Reads the parts of an ELF file, after the header: the table of sections, their names, and the
+// sections that a loader reads.
+#[tactic(auto, using(crate::proofs::FilePartLemmas::reads_none))]
 fn read_image<S: PartSource>(
     alloc: Global,
     source: &mut S,
@@ -100,41 +103,11 @@ fn read_image<S: PartSource>(
     ensures reads { ReadsParts S.is_file source.old file.old source.new file.new }
     ensures refusal { IfErr result IsReadRefusal }
 {
-    read_table(alloc, source, file, class, endian)?;
-    read_names(alloc, source, file, class, endian)?;
+    let table = table_range(alloc, file, class, endian)?;
+    file.read(source, table.offset, table.size)?;
+    let names = names_range(alloc, file, class, endian)?;
+    file.read(source, names.offset, names.size)?;
     read_sections(alloc, source, file)
-}
-
-// Reads the table of sections.
-#[tactic(auto, using(crate::proofs::FilePartLemmas::reads_none))]
-fn read_table<S: PartSource>(
-    alloc: Global,
-    source: &mut S,
-    file: &mut FileParts,
-    class: Class,
-    endian: RunTimeEndian,
-) -> Result<(), LoadError>
-    ensures reads { ReadsParts S.is_file source.old file.old source.new file.new }
-    ensures refusal { IfErr result IsReadRefusal }
-{
-    let range = table_range(alloc, file, class, endian)?;
-    file.read(source, range.offset, range.size)
-}
-
-// Reads the section with the names of the sections.
-#[tactic(auto, using(crate::proofs::FilePartLemmas::reads_none))]
-fn read_names<S: PartSource>(
-    alloc: Global,
-    source: &mut S,
-    file: &mut FileParts,
-    class: Class,
-    endian: RunTimeEndian,
-) -> Result<(), LoadError>
-    ensures reads { ReadsParts S.is_file source.old file.old source.new file.new }
-    ensures refusal { IfErr result IsReadRefusal }
-{
-    let range = names_range(alloc, file, class, endian)?;
-    file.read(source, range.offset, range.size)
 }
 
 // Reads the sections that a loader reads.

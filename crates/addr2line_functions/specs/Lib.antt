@@ -40,7 +40,6 @@ pub use Rattle.addr2line_ranges.specs.Results
 pub use Rattle.addr2line_ranges.specs.View
 pub use Rattle.addr2line_ranges.specs.DwarfFileType
 pub use Rattle.addr2line_ranges.specs.Error
-pub use Rattle.addr2line_ranges.specs.RunTimeEndian
 pub use Rattle.addr2line_ranges.specs.Iterators
 pub use Rattle.addr2line_ranges.specs.Range
 pub use Rattle.addr2line_ranges.specs.SectionLoading

@@ -21,15 +21,14 @@ mod walk;
 
 pub use addr2line_names::{DebugFile, HasUnit, HoldingUnit, KnownUnits};
 pub use addr2line_ranges::{
-    AbbreviationsCache, AbbreviationsCacheStrategy, Attribute, AttributeValue, DW_LANG_Rust,
-    DebugAbbrev, DebugAbbrevOffset, DebugAddr, DebugAddrIndex, DebugAranges, DebugInfo, DebugLine,
-    DebugLineStr, DebugLineStrOffset, DebugRanges, DebugRngLists, DebugRngListsIndex, DebugStr,
-    DebugStrOffset, DebugStrOffsets, DebugStrOffsetsIndex, DwLang, Dwarf, DwarfFileType, DwoId,
-    EndianBytes, EndianSlice, Error, Format, LineCursor, LineIndex, Lines, LinesBuilder,
-    LittleEndian, Location, LocationLists, Probes, Range, RangeLists, RangeListsOffset, RangePlace,
-    RawRangeListsOffset, Reader, ReaderOffsetId, RowStretch, RunTimeEndian, SectionId, Unit,
-    UnitHeader, UnitOffset, UnitRange, UnitRanges, UnitRangesBuilder, UnitRef, UnitType, file_text,
-    file_text_of_bytes, is_rooted, join, push_if_any, ranges_of_entry, share,
+    AbbreviationsCache, AbbreviationsCacheStrategy, AttributeValue, DebugAbbrev, DebugAbbrevOffset,
+    DebugAddr, DebugAddrIndex, DebugAranges, DebugInfo, DebugLine, DebugLineStr,
+    DebugLineStrOffset, DebugRanges, DebugRngLists, DebugRngListsIndex, DebugStr, DebugStrOffset,
+    DebugStrOffsets, DebugStrOffsetsIndex, DwLang, Dwarf, DwarfFileType, DwoId, EndianBytes,
+    EndianSlice, Error, Format, LineCursor, LineIndex, LittleEndian, Location, LocationLists,
+    Probes, Range, RangeLists, RangeListsOffset, RangePlace, RawRangeListsOffset, Reader,
+    RowStretch, RunTimeEndian, SectionId, Unit, UnitHeader, UnitOffset, UnitRange, UnitRanges,
+    UnitRangesBuilder, UnitRef, UnitType, file_text, push_if_any, share,
 };
 pub use call::Call;
 pub use calls::{FunctionCalls, calls_of_function};
@@ -38,7 +37,7 @@ pub use frames::{FrameIter, frame_without_function, frames_by_numbers};
 pub use function::Function;
 pub use function_at::FunctionAt;
 pub use functions::{Functions, functions_of_unit};
-pub use gimli_units_entries::{DebuggingInformationEntry, ReaderOffset, UnitEntries, entries_raw};
+pub use gimli_units_entries::{DebuggingInformationEntry, ReaderOffset};
 pub use naming::Names;
 pub use numbered_range::NumberedRange;
 pub use row::{EntryRow, next_row};

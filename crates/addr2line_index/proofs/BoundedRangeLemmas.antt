@@ -311,14 +311,6 @@ module _ (low high : ℕ) where
       ap overlapping (left_at place from es d below)
       ∙ overlapping-append (pairs_left from (get_or es place d)) (all_left from (drop (place + 1) es))
 
-  -- no pair of the range at a place was one
-  pub overlapping_skipped : (place from : ℕ) (es : List BoundedRange) (d : BoundedRange) → place < length es
-      → overlapping (pairs_left from (get_or es place d)) ≡ []
-      → overlapping (all_left from (drop (place + 1) es)) ≡ overlapping (all_left from (drop place es))
-  overlapping_skipped place from es d below none =
-      sym (overlapping_at place from es d below
-      ∙ ap (λ l. l ++ overlapping (all_left from (drop (place + 1) es))) none)
-
   -- a pair of it was
   pub overlapping_found : (place from : ℕ) (es : List BoundedRange) (d : BoundedRange) (f : UnitRange × ℕ)
       → place < length es → CountsFrom 0 es → IsNextOverlap low high from (get_or es place d) f

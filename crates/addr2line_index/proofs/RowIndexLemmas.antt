@@ -78,9 +78,6 @@ rows_to-within a (r ∷ rs) =
     ]
 
 -- the last of the first rows
-pub row_of-none : (a : ℕ) (rs : List LineRow) → rows_to a rs ≡ 0 → row_of rs a ≡ None
-row_of-none a rs none = ap (λ n. last_or None (take n rs)) none
-
 pub row_of-some : (a n : ℕ) (rs : List LineRow) → rows_to a rs ≡ suc n → row_of rs a ≡ slice_get rs n
 row_of-some a n rs some =
     let within = rows_to-within a rs in

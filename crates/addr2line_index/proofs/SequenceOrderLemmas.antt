@@ -119,7 +119,8 @@ pub by_start-ranges : (ss : List Sequence)
 by_start-ranges ss =
     ap (map (λ (e : OrderedSequence). e.range)) (by_start-is ss) ∙ ranges_bounded 0 (in_order starts_after ss)
 
-length_bounded : (greatest : ℕ) (ss : List Sequence) → length (with_greatest_ends greatest (map entry_of ss)) ≡ length ss
+length_bounded : (greatest : ℕ) (ss : List Sequence)
+    → length (with_greatest_ends greatest (map entry_of ss)) ≡ length ss
 length_bounded greatest [] = refl
 length_bounded greatest (s ∷ ss) = ap suc (length_bounded (max greatest s.end) ss)
 

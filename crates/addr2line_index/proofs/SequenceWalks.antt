@@ -13,7 +13,7 @@ use Rattle.addr2line_index.specs.Stretches.{sequence_from}
 use Rattle.addr2line_index.specs.LineCursors.{stretches_among, walk_probes}
 use Rattle.addr2line_index.proofs.SequenceOrderLemmas.{by_start-is}
 use Rattle.addr2line_index.proofs.SortedOrder.{NotLess, Ascends, Ascends-in_order}
-use Rattle.addr2line_index.proofs.StretchLemmas.{starts_before, starts_is_order, stretches_of-drop, drop_at, drop_past}
+use Rattle.addr2line_index.proofs.StretchLemmas.{starts_before, starts_is_order, stretches_of-drop, drop_at}
 
 -- a sequence has this range
 abbrev pub IsAt : List Sequence → ℕ → Range → Type 0
@@ -39,7 +39,8 @@ module _ (low high : ℕ) where
 
   -- it may begin where one has ended above the low end
   walk_from : (greatest : ℕ) (ss : List Sequence)
-      → filter (reaches low high) (drop (prefix_len (bounded_by low) (with_greatest_ends greatest (map entry_of ss))) ss)
+      → filter (reaches low high)
+      (drop (prefix_len (bounded_by low) (with_greatest_ends greatest (map entry_of ss))) ss)
       ≡ filter (reaches low high) ss
   walk_from greatest [] = refl
   walk_from greatest (s ∷ ss) =
@@ -147,11 +148,6 @@ module _ (low high : ℕ) where
       let next : suc n ≡ n + 1 = omega arith in
       enters files ss n row r s is at h k first
       ∙ ap (λ i. sequence_from files high row (slice_get ss n) ++ stretches_among files low high (drop i ss)) next
-
--- none is left after the last
-pub none_among : (files : List (List ℕ)) (low high n : ℕ) (ss : List Sequence) → length ss ≤ n
-    → stretches_among files low high (drop n ss) ≡ []
-none_among files low high n ss past = ap (stretches_among files low high) (drop_past n ss past)
 
 -- ---- looks
 

@@ -85,7 +85,8 @@ module _ (files : List (List ℕ)) (end high : ℕ) where
       ap (stretches_below files end high) (drop_at n rows r is)
       ∙ ap (take_while p) (stretch_is files end next r rest stretch refl refl refl after)
       ∙ take_while-cons p (stretch_of_row files stretch) (stretches_of files end rest)
-      ∙ ap (λ b. cond b (stretch_of_row files stretch ∷ stretches_below files end high rest) []) (is_below r.address high below)
+      ∙ ap (λ b. cond b (stretch_of_row files stretch ∷ stretches_below files end high rest) [])
+      (is_below r.address high below)
       ∙ ap (λ (x : RowStretch). stretch_of_row files x ∷ stretches_below files end high rest) (sym made)
 
 -- ---- order

@@ -24,8 +24,8 @@ pub mod unit_range;
 pub mod unit_ranges;
 mod unit_run;
 
-pub use addr2line_search::{Counters, Mark, Probed, Probes, Tally};
-pub use addr2line_spec::{file_text, file_text_of_bytes, is_rooted, join};
+pub use addr2line_search::{Counters, Probed, Probes, Tally};
+pub use addr2line_spec::{file_text, file_text_of_bytes};
 pub use builder::LinesBuilder;
 pub use line_cursor::LineCursor;
 pub use line_index::LineIndex;

@@ -120,7 +120,8 @@ pub(crate) fn row_in(
     probes: &mut Probes,
 ) -> Option<LineRow>
     requires { MatchOption sequence (Unit {0}) (λ s. probes.old.name ≡ s.now.counter) }
-    ensures row { result ≡ option_and_then (λ s. row_of s.now.sequence.rows address) sequence.entry }
+    ensures row { result
+        ≡ option_and_then (λ s. row_of s.now.sequence.rows address) sequence.entry }
     ensures cost { AtMostProbes (row_probes (option_map (λ s. s.now.sequence) sequence.entry))
         probes.old probes.new }
 {

@@ -55,8 +55,8 @@ module _ {S F : Type 0} (answers : S → List ℕ → List ℕ → Result (Optio
             found = record {
               same = same_file;
               finds =
-                  finds_decided answers a inside.context (load_state inside source) see answered.units decided after_loads
-                  all r
+                  finds_decided answers a inside.context (load_state inside source) see answered.units decided
+                  after_loads all r
                   (lent (frames_by_answers inside.context a answered.value.answers) all.decides);
             };
             units = reads;

@@ -6,4 +6,3 @@ mod FoundFrames
 mod SupplementSections
 mod FileReadLemmas
 mod AlikeFileLemmas
-mod DecompressedLoads

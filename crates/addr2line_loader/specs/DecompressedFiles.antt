@@ -54,7 +54,7 @@ pub record LoadsDecompressedFiles (has_supplement : Bool)
   pub image : Result (List ℕ) LoadError
   pub supplement : Result (Option (List ℕ)) LoadError
   pub image_is_read : IsRead image
-  pub supplement_is_read : IsReadIfAny has_supplement supplement
+  pub supplement_is_read : IsReadIfAny IsRead has_supplement supplement
   pub loads : DecompressesAsOrNoMemory (λ f. f.file) result
       (decompressed_file_of_reads image supplement)
   pub lines : IfOk result (λ f. RunForRangesAlone f.units)

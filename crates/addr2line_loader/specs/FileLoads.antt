@@ -1,10 +1,10 @@
 -- Files that are read from the file system and loaded. Of what a read gives nothing is known here.
-use Rattle.std.specs.Prelude.{◌≡◌, ℕ, Bool, List, Option, Some, None, Result, Ok, IfOk, IfSome}
+use Rattle.std.specs.Prelude.{◌≡◌, Bool, Option, Some, None, Result, Ok, IfOk, IfSome}
 use Rattle.std.specs.Option.{is_some}
 use Rattle.addr2line_context.specs.ResolvedUnits.{RunForRangesAlone}
 use Rattle.addr2line_context.specs.Results.{◌>>=◌}
 use Rattle.addr2line_split.specs.FileParts.{PartialFile, bytes_if_any}
-use Rattle.addr2line_split.specs.FileReads.{AreRead, IsRead}
+use Rattle.addr2line_split.specs.FileReads.{AreRead}
 use Rattle.addr2line_split.specs.ImageLoading.{LoadsAsOrNoMemory}
 use Rattle.addr2line_split.specs.LoadError.{LoadError}
 use Rattle.addr2line_loader.specs.LoadedFiles.{LoadedFile, loaded_file}
@@ -17,20 +17,13 @@ read_if_any (Some read) = do
   file ← read
   Ok (Some file)
 
--- reading a file, if there is one, gives this
-abbrev pub IsReadIfAny : Bool → Result (Option (List ℕ)) LoadError → Type 0
-IsReadIfAny has_file result =
-    (read : Option (Result (List ℕ) LoadError))
+-- reading a file, or its parts, if there is one, gives this; `reads` is what such a read gives
+abbrev pub IsReadIfAny : {A : Type 0} → (Result A LoadError → Type 0) → Bool
+    → Result (Option A) LoadError → Type 0
+IsReadIfAny {A} reads has_file result =
+    (read : Option (Result A LoadError))
     × (is_some read ≡ has_file)
-    × IfSome read IsRead
-    × (result ≡ read_if_any read)
-
--- the same of the parts of a file
-abbrev pub AreReadIfAny : Bool → Result (Option PartialFile) LoadError → Type 0
-AreReadIfAny has_file result =
-    (read : Option (Result PartialFile LoadError))
-    × (is_some read ≡ has_file)
-    × IfSome read AreRead
+    × IfSome read reads
     × (result ≡ read_if_any read)
 
 -- the file whose parts were read, with its supplement
@@ -48,6 +41,6 @@ pub record LoadsFiles (has_supplement : Bool) (result : Result ResolvedFile Load
     pub image : Result PartialFile LoadError
     pub supplement : Result (Option PartialFile) LoadError
     pub image_is_read : AreRead image
-    pub supplement_is_read : AreReadIfAny has_supplement supplement
+    pub supplement_is_read : IsReadIfAny AreRead has_supplement supplement
     pub loads : LoadsAsOrNoMemory (λ f. f.file) result (file_of_reads image supplement)
     pub lines : IfOk result (λ f. RunForRangesAlone f.units)

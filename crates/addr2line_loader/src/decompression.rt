@@ -16,9 +16,9 @@ use std::path::AsPath;
 use std::rt::Files;
 
 impl Loader {
-    /// Loads the file of some bytes, and its supplement, if there is one, as `from_bytes` does, with
-    /// the sections that lookups read decompressed. Where none of a file's is compressed, its bytes
-    /// are shared; else memory is taken for them again, and for the text of each section.
+    /// Loads the file of some bytes, and its supplement, if there is one, as `from_bytes` does, but
+    /// the sections that lookups read are decompressed. Where none of a file's is compressed, its
+    /// bytes are shared; else memory is taken for them again, and for the text of each section.
     pub fn from_bytes_decompressed(
         alloc: Global,
         image: Bytes,

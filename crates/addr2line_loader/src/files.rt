@@ -2,7 +2,8 @@
 
 ghost use Rattle.std.specs.Prelude.{false};
 ghost use Rattle.std.specs.Option.{is_some};
-ghost use Rattle.addr2line_loader.specs.FileLoads.{AreReadIfAny, IsReadIfAny, LoadsFiles};
+ghost use Rattle.addr2line_split.specs.FileReads.{AreRead, IsRead};
+ghost use Rattle.addr2line_loader.specs.FileLoads.{IsReadIfAny, LoadsFiles};
 
 use crate::loader::Loader;
 use addr2line_split::{FileParts, LoadError, read_file, read_parts};
@@ -12,8 +13,8 @@ use std::rt::Files;
 
 impl Loader {
     /// Reads a file, and loads it. Only its headers, the sections that lookups read, its symbols
-    /// and their names are read, each once into a buffer of its size, which the loader keeps; where
-    /// these can't be told apart, and of what is no regular file, all bytes are.
+    /// and their names are read, each once into a buffer of its size, which the loader keeps. All
+    /// bytes are read where these parts overlap or can't be found, and of what is no regular file.
     pub fn new<R: Files + AllocGlobal, P: AsPath>(rt: &R, path: P) -> Result<Loader, LoadError>
         ensures { LoadsFiles false result }
     {
@@ -40,7 +41,7 @@ fn read_parts_if_any<R: Files + AllocGlobal, P: AsPath>(
     rt: &R,
     path: Option<P>,
 ) -> Result<Option<FileParts>, LoadError>
-    ensures { AreReadIfAny (is_some path) result }
+    ensures { IsReadIfAny AreRead (is_some path) result }
 {
     match path {
         Some(path) => Ok(Some(read_parts(rt, path)?)),
@@ -53,7 +54,7 @@ pub(crate) fn read_if_any<R: Files + AllocGlobal, P: AsPath>(
     rt: &R,
     path: Option<P>,
 ) -> Result<Option<Bytes>, LoadError>
-    ensures { IsReadIfAny (is_some path) result }
+    ensures { IsReadIfAny IsRead (is_some path) result }
 {
     match path {
         Some(path) => Ok(Some(read_file(rt, path)?)),

@@ -17,7 +17,7 @@ pub mod stretches;
 mod symbols;
 
 pub use addr2line_decompress::{
-    DebugSections, DecompressError, decompressed, decompressed_sections,
+    DebugSections, DecompressError, InflateError, decompressed, decompressed_sections,
 };
 pub use decompressed_source::DecompressedSource;
 pub use loader::Loader;

@@ -7,10 +7,11 @@ use Rattle.addr2line_unit.specs.InlinedCalls.{FunctionCalls}
 use Rattle.addr2line_unit.specs.EntryReferences.{KnownUnits}
 use Rattle.addr2line_unit.specs.KeptFunctions.{kept_at, count_of_functions}
 use Rattle.addr2line_unit.specs.ResolvedUnits.{AnsweredUnit, ResolvedUnit, value_of_unit, functions_of, IsKeptOf}
+use Rattle.addr2line_unit.specs.Results.{refusal_of}
 use Rattle.addr2line_lookups.specs.KeptUnits.{KeepsFunctionsAt}
 use Rattle.addr2line_lookups.specs.KeptCalls.{known_among, calls_among, HoldCalls}
 use Rattle.addr2line_lookups.specs.FunctionPlaces.{KeepsCallsAt}
-use Rattle.addr2line_lookups.specs.UnitParses.{refusal_of, ChecksOrNoMemory, check_call_of, check_if_any, check_unit_at, check_functions_of, check_calls_of}
+use Rattle.addr2line_lookups.specs.UnitParses.{ChecksOrNoMemory, check_call_of, check_if_any, check_unit_at, check_functions_of, check_calls_of}
 use Rattle.addr2line_lookups.proofs.CallsLeft.{known_same}
 use Rattle.addr2line_lookups.proofs.CallsOfUnits.{if_here, holds_here}
 use Rattle.addr2line_lookups.proofs.UnitTurns.{check_before}

@@ -1,7 +1,6 @@
 pub use Rattle.addr2line_unit.proofs.NewUnits
 pub use Rattle.addr2line_unit.proofs.UnitsInOrder
 pub use Rattle.addr2line_unit.proofs.UnitAnswers
-pub use Rattle.addr2line_unit.proofs.UnitViews
 pub use Rattle.addr2line_unit.proofs.PendingLoads
 pub mod AddressSearches
 pub mod AnsweredLoads

@@ -1,7 +1,7 @@
 -- The functions of a unit and their calls, by what is kept of them.
 use Rattle.std.proofs.Common.{◌≡◌, ℕ, zero, suc, ◌<◌, List, [], ◌∷◌, length, slice_get, Option, Some, None, Result, Ok, Err, OnOk, refl, ap, ◌∙◌, arith}
 use Rattle.addr2line_unit.specs.Error.{Error}
-use Rattle.addr2line_unit.specs.Results.{and_then, each}
+use Rattle.addr2line_unit.specs.Results.{and_then, each, refusal_of}
 use Rattle.addr2line_unit.specs.UnitFacts.{UnitInFile}
 use Rattle.addr2line_unit.specs.Functions.{Function, functions_of_unit}
 use Rattle.addr2line_unit.specs.InlinedCalls.{Naming, calls_of_function}
@@ -10,7 +10,7 @@ use Rattle.addr2line_unit.specs.KeptFunctions.{count_of_functions}
 use Rattle.addr2line_unit.specs.FirstAnswers.{SplitLoad, FirstAnswer, load_of}
 use Rattle.addr2line_unit.specs.ResolvedUnits.{AnsweredUnit, ResolvedUnit, main_unit, undecided, pending_load, first_with, with_unit_answer, first_answer, unit_of_functions, functions_of, calls_of}
 use Rattle.addr2line_unit.specs.ContextNames.{naming_from}
-use Rattle.addr2line_lookups.specs.UnitParses.{check_functions_of, check_calls_of, check_call_of, refusal_of}
+use Rattle.addr2line_lookups.specs.UnitParses.{check_functions_of, check_calls_of, check_call_of}
 
 -- what holds in any case
 pub on_ok_always : {P : Type 0} (r : Result (Unit {0}) Error) → P → OnOk r P

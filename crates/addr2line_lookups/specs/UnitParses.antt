@@ -3,7 +3,7 @@
 use Rattle.std.specs.Prelude.{◌≡◌, ◌≢◌, ◌⊎◌, ℕ, ◌<◌, zero, suc, List, [], ◌∷◌, length, map, set, slice_get, Option, Some, None, IfSome, Result, Ok, Err}
 use Rattle.addr2line_unit.specs.Error.{Error}
 use Rattle.addr2line_unit.specs.Error.TheVariants.{Memory}
-use Rattle.addr2line_unit.specs.Results.{and_then, each, ◌>>=◌}
+use Rattle.addr2line_unit.specs.Results.{refusal_of, each, ◌>>=◌}
 use Rattle.addr2line_unit.specs.Functions.{functions_of_unit}
 use Rattle.addr2line_unit.specs.InlinedCalls.{calls_of_function}
 use Rattle.addr2line_unit.specs.EntryReferences.{KnownUnits}
@@ -18,10 +18,6 @@ use Rattle.addr2line_lookups.specs.KeptCalls.{calls_among}
 -- a unit whose turn has come: its load is answered by no file, if it is pending
 abbrev pub without_load : AnsweredUnit → AnsweredUnit
 without_load v = with_unit_answer (Ok None) v
-
--- without the value
-abbrev pub refusal_of : {A : Type 0} → Result A Error → Result (Unit {0}) Error
-refusal_of r = and_then r (λ x. Ok tt)
 
 -- whether the functions of a unit can be read
 abbrev pub check_functions_of : AnsweredUnit → Result (Unit {0}) Error

@@ -20,17 +20,14 @@ pub mod units;
 mod waiting;
 
 pub use addr2line_unit::{
-    AbbreviationsCache, AbbreviationsCacheStrategy, ArangeIndex, AttributeValue, DW_LANG_Rust,
-    DebugAbbrev, DebugAbbrevOffset, DebugAddr, DebugAddrIndex, DebugAranges, DebugInfo, DebugLine,
-    DebugLineStr, DebugLineStrOffset, DebugRanges, DebugRngLists, DebugRngListsIndex, DebugStr,
-    DebugStrOffset, DebugStrOffsets, DebugStrOffsetsIndex, DwLang, Dwarf, DwarfFileType, DwoId,
-    EndianBytes, EndianSlice, Error, Format, Frame, FrameIter, FunctionName, LineCursor, LineIndex,
-    Lines, LinesBuilder, LittleEndian, Location, LocationLists, Range, RangeLists,
-    RangeListsOffset, RangePlace, RawRangeListsOffset, Reader, ReaderOffsetId, ResUnit, RowStretch,
-    RunTimeEndian, Runs, SectionId, SplitDwarfLoad, Unit, UnitLines, UnitOffset, UnitRange,
-    UnitRanges, UnitRef, UnitRoot, file_text, file_text_of_bytes, frame_without_function,
-    is_rooted, join, language_of, ordered_ranges, ranges_of_attributes, units_of_file,
-    units_of_supplement,
+    AbbreviationsCache, AbbreviationsCacheStrategy, ArangeIndex, AttributeValue, DebugAbbrev,
+    DebugAbbrevOffset, DebugAddr, DebugAddrIndex, DebugAranges, DebugInfo, DebugLine, DebugLineStr,
+    DebugLineStrOffset, DebugRanges, DebugRngLists, DebugRngListsIndex, DebugStr, DebugStrOffset,
+    DebugStrOffsets, DebugStrOffsetsIndex, DwLang, Dwarf, DwarfFileType, DwoId, EndianBytes,
+    EndianSlice, Error, Format, Frame, FrameIter, FunctionName, LittleEndian, Location,
+    LocationLists, Range, RangeLists, RangeListsOffset, RawRangeListsOffset, Reader, ResUnit,
+    RunTimeEndian, Runs, SectionId, SplitDwarfLoad, Unit, UnitLines, UnitOffset, UnitRef,
+    file_text, frame_without_function, units_of_file, units_of_supplement,
 };
 pub use covering::next_covering;
 pub use frame_place::{FramePlace, find_frames_at, frames_at_place};

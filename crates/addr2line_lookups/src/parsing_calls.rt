@@ -3,11 +3,12 @@
 ghost use Rattle.std.specs.Prelude.{◌≡◌, ◌<◌, Ok, IfSome, OnOk, length, map};
 ghost use Rattle.addr2line_unit.specs.KeptFunctions.{kept_at};
 ghost use Rattle.addr2line_unit.specs.ResolvedUnits.{value_of_unit};
+ghost use Rattle.addr2line_unit.specs.Results.{refusal_of};
 ghost use Rattle.addr2line_lookups.specs.KeptUnits.{ReadsNoLines, KeepsFunctionsAt};
 ghost use Rattle.addr2line_lookups.specs.KeptCalls.{known_among, HoldCalls};
 ghost use Rattle.addr2line_lookups.specs.FunctionPlaces.{count_at, KeepsCallsAt};
 ghost use Rattle.addr2line_lookups.specs.LookupCosts.{AtMostLooks};
-ghost use Rattle.addr2line_lookups.specs.UnitParses.{check_functions_of, check_calls_of, check_call_of, refusal_of, ChecksOrNoMemory, after_turn, check_unit_at, KeepsAllCallsAt, KeepAllCalls, WalksOrNoMemory};
+ghost use Rattle.addr2line_lookups.specs.UnitParses.{check_functions_of, check_calls_of, check_call_of, ChecksOrNoMemory, after_turn, check_unit_at, KeepsAllCallsAt, KeepAllCalls, WalksOrNoMemory};
 
 use crate::function_place::keep_calls;
 use crate::parsing_functions::parse_functions_at;

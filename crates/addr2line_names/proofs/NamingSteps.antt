@@ -28,8 +28,8 @@ attributes_first limit s ss w after a h =
     ap (λ (r : Result (RawAttribute × Walk) Error). attribute_and_rest r (attributes_from limit ss)) h
 
 -- it can't
-pub attributes_refused : (limit : ℕ) (s : Attribute) (ss : List Attribute) (w : Walk) (e : Error) → value limit s w ≡ Err e
-    → attributes_from limit (s ∷ ss) w ≡ record { items = []; ending = Err e }
+pub attributes_refused : (limit : ℕ) (s : Attribute) (ss : List Attribute) (w : Walk) (e : Error)
+    → value limit s w ≡ Err e → attributes_from limit (s ∷ ss) w ≡ record { items = []; ending = Err e }
 unfolding attributes_from
 attributes_refused limit s ss w e h =
     ap (λ (r : Result (RawAttribute × Walk) Error). attribute_and_rest r (attributes_from limit ss)) h
@@ -180,7 +180,8 @@ module _ (limit : ℕ) (h : HoldingUnit) where
       ∙ naming_from-passed found p.passed (attributes_from limit others new) p.nameless)
 
   -- a fault after them is that of all
-  pub passed-fault : (found : EntryNaming) (all : List Attribute) (w : Walk) (e : Error) (whole : Result EntryNaming Error)
+  pub passed-fault : (found : EntryNaming) (all : List Attribute) (w : Walk) (e : Error)
+      (whole : Result EntryNaming Error)
       → PassesToFault limit all w e → naming_from found (attributes_from limit all w) ≡ whole → whole ≡ Err e
   passed-fault found all w e whole p before =
       sym before ∙ ap (naming_from found) (p.same ∙ ap (at_fault e) (sym (append-nil p.passed)))

@@ -1,4 +1,3 @@
-pub use Rattle.gimli_dwarf.specs.DwarfFiles
 pub use Rattle.gimli_dwarf.specs.UnitFacts
 pub mod EntryReferences
 pub mod OrderedUnits

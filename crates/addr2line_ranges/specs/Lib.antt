@@ -40,7 +40,6 @@ pub use Rattle.gimli_lines_rows.specs.Results
 pub use Rattle.gimli_lines_rows.specs.View
 pub use Rattle.gimli_lines_rows.specs.DwarfFileType
 pub use Rattle.gimli_lines_rows.specs.Error
-pub use Rattle.gimli_lines_rows.specs.RunTimeEndian
 pub use Rattle.gimli_lines_rows.specs.Iterators
 pub use Rattle.gimli_lines_rows.specs.Range
 pub use Rattle.gimli_dwarf.specs.Declarations

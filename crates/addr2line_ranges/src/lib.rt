@@ -13,9 +13,8 @@ pub mod sharing;
 mod unit_arange;
 
 pub use addr2line_index::{
-    Counters, LineCursor, LineIndex, LineRow, LineSequence, Lines, LinesBuilder, Location, Probes,
-    RangeIndex, RangePlace, Ranged, RowStretch, UnitRange, UnitRanges, UnitRangesBuilder,
-    file_text, file_text_of_bytes, is_rooted, join,
+    Counters, LineCursor, LineIndex, LineRow, Location, Probes, RangeIndex, RangePlace, Ranged,
+    RowStretch, UnitRange, UnitRanges, UnitRangesBuilder, file_text,
 };
 pub use arange_index::ArangeIndex;
 pub use declarations::{declared_ranges, entry_ranges, ranges_of_entry};
@@ -27,12 +26,11 @@ pub use gimli_dwarf::{
 };
 pub use gimli_lines_rows::{
     AbbreviationsCache, AbbreviationsCacheStrategy, Attribute, AttributeValue, DW_AT_language,
-    DW_LANG_Rust, DebugAbbrev, DebugAbbrevOffset, DebugAddr, DebugAddrIndex, DebugAranges,
-    DebugInfo, DebugLine, DebugLineStr, DebugLineStrOffset, DebugRngListsIndex, DebugStr,
-    DebugStrOffset, DebugStrOffsets, DebugStrOffsetsIndex, DwLang, DwarfFileType, DwoId,
-    EndianBytes, EndianSlice, Error, Format, LittleEndian, Range, RangeListsOffset,
-    RawRangeListsOffset, Reader, ReaderOffset, ReaderOffsetId, RunTimeEndian, SectionId,
-    UnitHeader, UnitOffset, UnitType,
+    DebugAbbrev, DebugAbbrevOffset, DebugAddr, DebugAddrIndex, DebugAranges, DebugInfo, DebugLine,
+    DebugLineStr, DebugLineStrOffset, DebugRngListsIndex, DebugStr, DebugStrOffset,
+    DebugStrOffsets, DebugStrOffsetsIndex, DwLang, DwarfFileType, DwoId, EndianBytes, EndianSlice,
+    Error, Format, LittleEndian, Range, RangeListsOffset, RawRangeListsOffset, Reader,
+    ReaderOffset, RunTimeEndian, SectionId, UnitHeader, UnitOffset, UnitType,
 };
 pub use last_list::LastList;
 pub use push::push_if_any;

@@ -6,5 +6,5 @@ pub mod call_laws;
 pub mod lookup_laws;
 pub mod suspension_laws;
 
-pub use addr2line_paths::{file_text, file_text_of_bytes, is_rooted, join};
+pub use addr2line_paths::{file_text, file_text_of_bytes};
 pub use gimli_lines_machine::{Error, Range};

@@ -1,6 +1,3 @@
-pub use Rattle.addr2line_unit.specs.Calls
-pub use Rattle.addr2line_unit.specs.Error
-pub use Rattle.addr2line_unit.specs.Results
 pub use Rattle.gimli_dwarf_spec.specs.SectionId
 pub use Rattle.addr2line_unit.specs.View
 pub use Rattle.addr2line_unit.specs.Range

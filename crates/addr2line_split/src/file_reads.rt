@@ -29,9 +29,9 @@ pub fn read_file<R: Files + AllocGlobal, P: AsPath>(rt: &R, path: P) -> Result<B
 }
 
 /// What a loader needs of a file, as `read_needed` reads it: each part once, into a buffer of its
-/// size; or all bytes, where those are needed, and of what is no regular file. Refused is a file that
-/// can't be read, or that ends before a part that was there when it was opened, as `Io`, and out of
-/// memory, as `Memory`.
+/// size; or all bytes, where those are needed, and of what is no regular file. Refused is a file
+/// that can't be read, or that ends before a part that was there when it was opened, as `Io`, and
+/// out of memory, as `Memory`.
 pub fn read_parts<R: Files + AllocGlobal, P: AsPath>(
     rt: &R,
     path: P,

@@ -14,8 +14,8 @@ use std::path::{Path, PathBuf};
 use std::str;
 
 /// Split files of a file system. A file's path is its name joined to its directory, as `Path` joins
-/// them, so that an absolute name is the path. A path that isn't UTF-8, leads to no regular file, or
-/// can't be read, gives none.
+/// them, so that an absolute name is the path. A path that isn't UTF-8, leads to no regular file,
+/// or can't be read, gives none.
 #[derive(Drop)]
 pub struct FileSource<R> {
     rt: R,

@@ -3,10 +3,6 @@ pub use Rattle.addr2line_functions.proofs.UnitViews
 pub use Rattle.addr2line_functions.proofs.PendingLoads
 pub use Rattle.addr2line_functions.proofs.RangeNumbers
 pub use Rattle.addr2line_functions.proofs.NumberedCalls
-pub use Rattle.addr2line_functions.proofs.TilingLemmas
-pub use Rattle.addr2line_functions.proofs.UnitHeaderLemmas
-pub use Rattle.addr2line_root.proofs.HolderViews
-pub use Rattle.addr2line_root.proofs.HeadersInFiles
 pub mod KeptParses
 pub mod FunctionParses
 pub mod NewUnits

@@ -14,19 +14,17 @@ pub mod unit_functions;
 pub mod units;
 
 pub use addr2line_functions::{
-    AbbreviationsCache, AbbreviationsCacheStrategy, AttributeValue, DW_LANG_Rust, DebugAbbrev,
-    DebugAbbrevOffset, DebugAddr, DebugAddrIndex, DebugAranges, DebugInfo, DebugLine, DebugLineStr,
+    AbbreviationsCache, AbbreviationsCacheStrategy, AttributeValue, DebugAbbrev, DebugAbbrevOffset,
+    DebugAddr, DebugAddrIndex, DebugAranges, DebugInfo, DebugLine, DebugLineStr,
     DebugLineStrOffset, DebugRanges, DebugRngLists, DebugRngListsIndex, DebugStr, DebugStrOffset,
     DebugStrOffsets, DebugStrOffsetsIndex, DwLang, Dwarf, DwarfFileType, DwoId, EndianBytes,
     EndianSlice, Error, Format, Frame, FrameIter, FunctionCalls, FunctionName, KnownUnits,
-    LineCursor, LineIndex, Lines, LinesBuilder, LittleEndian, Location, LocationLists, Range,
-    RangeLists, RangeListsOffset, RangePlace, RawRangeListsOffset, Reader, ReaderOffsetId,
-    RowStretch, RunTimeEndian, SectionId, Unit, UnitHeader, UnitNames, UnitOffset, UnitRange,
-    UnitRanges, UnitRef, file_text, file_text_of_bytes, frame_without_function, is_rooted, join,
+    LineCursor, LineIndex, LittleEndian, Location, LocationLists, Range, RangeLists,
+    RangeListsOffset, RangePlace, RawRangeListsOffset, Reader, RowStretch, RunTimeEndian,
+    SectionId, Unit, UnitHeader, UnitNames, UnitOffset, UnitRange, UnitRanges, UnitRef, file_text,
+    frame_without_function,
 };
-pub use addr2line_root::{
-    ArangeIndex, LineRow, OwnedUnit, Runs, UnitLines, UnitRoot, language_of, ranges_of_attributes,
-};
+pub use addr2line_root::{ArangeIndex, LineRow, OwnedUnit, Runs, UnitLines};
 pub use first_answer::answer_of;
 pub use kept::Kept;
 pub use load::{KeptLoad, SplitDwarfLoad, load_of};

@@ -1,8 +1,8 @@
 //! Answers questions about DWARF bytes, one a line: the name of an operation, the numbers that it
 //! needs, and after a colon the sections that it reads, in hexadecimal; `0b*70000` is a byte 70,000
-//! times, and `+` joins parts. Each question is answered twice, from borrowed and from shared bytes,
-//! and a difference is a fault. A line that begins with `#` is a heading. A question for which memory
-//! is refused is asked again, and its answer begins with `E1, then`.
+//! times, and `+` joins parts. Each question is answered twice, from borrowed and from shared
+//! bytes, and a difference is a fault. A line that begins with `#` is a heading. A question for
+//! which memory is refused is asked again, and its answer begins with `E1, then`.
 #![tactic(auto)]
 
 mod answer;

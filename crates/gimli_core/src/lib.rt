@@ -191,6 +191,6 @@ pub use gimli_core_readers::read_u8_array;
 /// What holds of the definitions, as contracts.
 pub mod laws {
     pub use gimli_core_abbrev::abbreviation_laws as abbreviations;
-    pub use gimli_core_base::number_laws as numbers;
+    pub use gimli_core_base::{number_laws as numbers, standard_numbers};
     pub use gimli_core_readers::laws as readers;
 }

@@ -7,11 +7,12 @@ use Rattle.gimli_core_readers.specs.View.{View, bytes_left}
 use Rattle.gimli_core_readers.specs.Parsers.{value_of}
 use Rattle.gimli_core_readers.specs.Repetition.{listing_in}
 use Rattle.gimli_core_readers.proofs.Listings.{item_smaller}
+use Rattle.gimli_core_readers.specs.Results.{refusal_of}
 use Rattle.gimli_core_abbrev.specs.Declarations.{Declaration, has_code, by_code, repeated_after, repeated_code}
 use Rattle.gimli_core_abbrev.specs.TableParsing.{coded_declaration, declaration, unless_ended, table}
 use Rattle.gimli_core_abbrev.specs.declared.checks.Skipped.{Skipped}
 use Rattle.gimli_core_abbrev.specs.declared.checks.Skipped.TheVariants.{Ended, Counted, Unordered}
-use Rattle.gimli_core_abbrev.specs.TableChecks.{can_read, IsInOrder, IsRun, SkipsInOrder}
+use Rattle.gimli_core_abbrev.specs.TableChecks.{IsInOrder, IsRun, SkipsInOrder}
 use Rattle.gimli_core_abbrev.proofs.DeclarationSizes.{declarations-shrink}
 use Rattle.gimli_core_abbrev.proofs.TableCollection.{list_end, list_fault, listing_further, table_is, table_refused}
 
@@ -134,22 +135,22 @@ not_in_order v u w run d item ne ordered =
 -- ---- what a check answers
 
 pub checked_ended : (limit : ℕ) (v w : View) (s : Skipped) → s ≡ Ended → SkipsInOrder 0 limit (Ok s) v w
-    → can_read (value_of (table v)) ≡ Ok tt
+    → refusal_of (value_of (table v)) ≡ Ok tt
 checked_ended limit v w s is skips =
     let h = subst (λ (x : Skipped). SkipsInOrder 0 limit (Ok x) v w) is skips in
-    ap (λ r. can_read (value_of r)) (run_ends v h.0 w h.1 h.3)
+    ap (λ r. refusal_of (value_of r)) (run_ends v h.0 w h.1 h.3)
 
 pub checked_counted : (limit : ℕ) (v w : View) (s : Skipped) → s ≡ Counted → limit ≡ bytes_left v
-    → SkipsInOrder 0 limit (Ok s) v w → can_read (value_of (table v)) ≡ Ok tt
+    → SkipsInOrder 0 limit (Ok s) v w → refusal_of (value_of (table v)) ≡ Ok tt
 checked_counted limit v w s is all skips =
     let h = subst (λ (x : Skipped). SkipsInOrder 0 limit (Ok x) v w) is skips in
     let sizes = h.0.sizes in
     let none : bytes_left w ≡ 0 = omega (arith, sizes, h.1, all) in
-    ap (λ r. can_read (value_of r)) (run_ends v w w h.0 (ends_without_bytes w none))
+    ap (λ r. refusal_of (value_of r)) (run_ends v w w h.0 (ends_without_bytes w none))
 
 pub checked_refused : (limit : ℕ) (v w : View) (e : Error) → SkipsInOrder 0 limit (Err e) v w
-    → can_read (value_of (table v)) ≡ Err e
-checked_refused limit v w e h = ap (λ r. can_read (value_of r)) (run_refused v h.0 e h.1 h.2)
+    → refusal_of (value_of (table v)) ≡ Err e
+checked_refused limit v w e h = ap (λ r. refusal_of (value_of r)) (run_refused v h.0 e h.1 h.2)
 
 pub checked_unordered : (limit : ℕ) (v w : View) (s : Skipped) → s ≡ Unordered → SkipsInOrder 0 limit (Ok s) v w
     → IsInOrder (listing_in bytes_left declaration v).items → ⊥

@@ -9,13 +9,14 @@ use Rattle.gimli_core_readers.specs.Parsers.{value_of, map_value}
 use Rattle.gimli_core_readers.specs.Repetition.{prepend, listing_in}
 use Rattle.gimli_core_readers.proofs.StepParts.{value_of-Ok}
 use Rattle.gimli_core_readers.proofs.Listings.{item_smaller}
+use Rattle.gimli_core_readers.specs.Results.{refusal_of}
 use Rattle.gimli_core_abbrev.specs.Declarations.{Declaration, declaration_at}
 use Rattle.gimli_core_abbrev.specs.TableParsing.{declaration, table}
 use Rattle.gimli_core_abbrev.specs.declared.checks.Skipped.{Skipped}
 use Rattle.gimli_core_abbrev.specs.declared.checks.Skipped.TheVariants.{Ended, Counted, Unordered}
 use Rattle.gimli_core_abbrev.specs.declared.checks.CodePlace.{CodePlace}
 use Rattle.gimli_core_abbrev.specs.declared.checks.CodePlace.TheVariants.{Here}
-use Rattle.gimli_core_abbrev.specs.TableChecks.{can_read, find_declaration, IsInOrder, IsRun, SkipsInOrder, SeeksInOrder}
+use Rattle.gimli_core_abbrev.specs.TableChecks.{find_declaration, IsInOrder, IsRun, SkipsInOrder, SeeksInOrder}
 use Rattle.gimli_core_abbrev.proofs.DeclarationSizes.{declarations-shrink}
 use Rattle.gimli_core_abbrev.proofs.SkippedDeclarations.{code_of, skipped_some}
 use Rattle.gimli_core_abbrev.proofs.TableCollection.{found_by_code}
@@ -77,11 +78,11 @@ find_none v u w run code above end =
     ∙ absent_above 0 run.declarations code run.in_order (omega (arith, above)))
 
 -- no table has the code 0
-pub find-0 : (v : View) (x : Unit {0}) → can_read (value_of (table v)) ≡ Ok x
+pub find-0 : (v : View) (x : Unit {0}) → refusal_of (value_of (table v)) ≡ Ok x
     → find_declaration 0 (value_of (table v)) ≡ Ok None
 find-0 v x read = by_result (value_of (table v)) refl read
   where
-    by_result : (r : Result (List Declaration) Error) → value_of (table v) ≡ r → can_read r ≡ Ok x
+    by_result : (r : Result (List Declaration) Error) → value_of (table v) ≡ r → refusal_of r ≡ Ok x
         → find_declaration 0 r ≡ Ok None
     by_result (Err e) is h = absurd cc
     by_result (Ok ds) is h =

@@ -140,12 +140,6 @@ list_table section v ds before place at =
 
 -- ---- calls
 
-abbrev well : View → Result View Error
-well v = Ok v
-
-pub view_same : (v w : View) → well v ≡ well w → v ≡ w
-view_same v w e = cc
-
 -- a refusal is handed on
 pub match_refused : {A B : Type 0} (r : Result A Error) (P : A → Type 0) (wanted : Result B Error) (d : Error)
     → IsErrAnd r (λ e. e ≡ d) → (d ≢ Memory → wanted ≡ Err d) → MatchResult r P (λ e. e ≢ Memory → wanted ≡ Err e)

@@ -15,10 +15,6 @@ use Rattle.gimli_core_abbrev.specs.TableParsing.{declaration, table}
 
 -- ---- what is asked
 
--- whether a table can be read
-abbrev pub can_read : Result (List Declaration) Error → Result (Unit {0}) Error
-can_read table = and_then table (λ ds. Ok tt)
-
 -- the declaration of a code, if the table can be read and has one
 abbrev pub find_declaration : ℕ → Result (List Declaration) Error
     → Result (Option Declaration) Error

@@ -5,8 +5,9 @@ ghost use Rattle.gimli_core_readers.specs.Calls.{Returns, ReturnsOrNoMemory};
 ghost use Rattle.gimli_core_readers.specs.Parsers.{value_of};
 ghost use Rattle.gimli_core_readers.specs.Repetition.{listing_in};
 ghost use Rattle.gimli_core_readers.specs.View.{bytes_left};
+ghost use Rattle.gimli_core_readers.specs.Results.{refusal_of};
 ghost use Rattle.gimli_core_abbrev.specs.TableParsing.{declaration, table};
-ghost use Rattle.gimli_core_abbrev.specs.TableChecks.{can_read, find_declaration, FindsNone, IsInOrder, SkipsInOrder, SeeksInOrder};
+ghost use Rattle.gimli_core_abbrev.specs.TableChecks.{find_declaration, FindsNone, IsInOrder, SkipsInOrder, SeeksInOrder};
 
 use crate::owned::OwnedAbbreviation;
 use crate::{abbreviation, table};
@@ -53,9 +54,9 @@ fn skip_in_order<R: Reader>(input: &mut R, first: u64, limit: u64) -> Result<Ski
 
 // Checks that a table can be read. Takes no memory where the codes are 1, 2, ..
 pub(crate) fn check<R: Reader>(alloc: Global, reader: &R) -> Result<(), Error>
-    ensures value { ReturnsOrNoMemory result (can_read (value_of (table (R.view reader.now)))) }
+    ensures value { ReturnsOrNoMemory result (refusal_of (value_of (table (R.view reader.now)))) }
     ensures free { IsInOrder (listing_in bytes_left declaration (R.view reader.now)).items
-        → Returns result (can_read (value_of (table (R.view reader.now)))) }
+        → Returns result (refusal_of (value_of (table (R.view reader.now)))) }
 {
     let mut place = borrowed(reader);
     let limit = place.slice().len() as u64;

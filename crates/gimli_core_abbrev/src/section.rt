@@ -4,9 +4,10 @@ ghost use Rattle.std.specs.Prelude.{◌≡◌};
 ghost use Rattle.std.specs.Fn.{FnOnceReturnsAt};
 ghost use Rattle.gimli_core_readers.specs.Calls.{Returns, ReturnsAs, ReturnsOrNoMemory, ReturnsAsOrNoMemory};
 ghost use Rattle.gimli_core_readers.specs.Parsers.{skip};
+ghost use Rattle.gimli_core_readers.specs.Results.{refusal_of};
 ghost use Rattle.gimli_core_abbrev.specs.TableParsing.{table_at};
 ghost use Rattle.gimli_core_abbrev.specs.TableLaws.{declarations_at};
-ghost use Rattle.gimli_core_abbrev.specs.TableChecks.{can_read, find_declaration, FindsNone, IsInOrder};
+ghost use Rattle.gimli_core_abbrev.specs.TableChecks.{find_declaration, FindsNone, IsInOrder};
 
 use crate::checks;
 use crate::owned::OwnedAbbreviation;
@@ -103,10 +104,10 @@ impl<R: Reader> DebugAbbrev<R> {
         offset: DebugAbbrevOffset<R::Offset>,
     ) -> Result<(), Error>
         ensures value { ReturnsOrNoMemory result
-            (can_read (table_at (R.Offset.count offset.0) self.now)) }
+            (refusal_of (table_at (R.Offset.count offset.0) self.now)) }
         // Where the codes are in order, this takes no memory.
         ensures free { IsInOrder (declarations_at (R.Offset.count offset.0) self.now)
-            → Returns result (can_read (table_at (R.Offset.count offset.0) self.now)) }
+            → Returns result (refusal_of (table_at (R.Offset.count offset.0) self.now)) }
     {
         let place = self.place_at(offset)?;
         checks::check(alloc, &place)

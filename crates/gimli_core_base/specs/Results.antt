@@ -10,6 +10,10 @@ infixl 10 ◌>>=◌
 abbrev pub ◌>>=◌ : {A B E : Type 0} → Result A E → (A → Result B E) → Result B E
 r >>= f = and_then r f
 
+-- the refusal, without the value
+abbrev pub refusal_of : {A E : Type 0} → Result A E → Result (Unit {0}) E
+refusal_of r = and_then r (λ x. Ok tt)
+
 -- the value as one that may be absent
 abbrev pub some_of : {A E : Type 0} → Result A E → Result (Option A) E
 some_of r = and_then r (λ x. Ok (Some x))

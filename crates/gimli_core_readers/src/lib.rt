@@ -49,7 +49,6 @@ pub use gimli_core_base::DW_AT_ranges;
 pub use gimli_core_base::DW_AT_rnglists_base;
 pub use gimli_core_base::DW_AT_stmt_list;
 pub use gimli_core_base::DW_AT_str_offsets_base;
-pub use gimli_core_base::DW_LANG_Rust;
 pub use gimli_core_base::DW_LNE_define_file;
 pub use gimli_core_base::DW_LNE_end_sequence;
 pub use gimli_core_base::DW_LNE_set_address;

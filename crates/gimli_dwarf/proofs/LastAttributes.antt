@@ -1,8 +1,8 @@
 -- The last of what elements give, found by a loop that keeps the last so far.
-use Rattle.std.proofs.Common.{◌≡◌, ℕ, ◌+◌, ◌<◌, ◌≤◌, List, length, get_or, drop, map, Option, Some, None, option_map, Result, Ok, refl, sym, ap, ◌∙◌}
+use Rattle.std.proofs.Common.{◌≡◌, ℕ, ◌+◌, ◌<◌, List, length, get_or, drop, map, Option, Some, None, option_map, Result, Ok, refl, sym, ap, ◌∙◌}
 use Rattle.std.specs.List.{filter_map, last_or, cons_option}
 use Rattle.std.specs.Option.{option_or}
-use Rattle.std.proofs.lemmas.List.{at_drop_more, at_drop_all}
+use Rattle.std.proofs.lemmas.List.{at_drop_more}
 use Rattle.gimli_dwarf_spec.specs.Error.{Error}
 
 -- a value answered
@@ -30,8 +30,3 @@ module _ {X Y A N : Type 0} (view : X → Y) (see : A → N) (F : Y → Option N
       ∙ ap (λ y. last_or (option_map see found) (cons_option (F (view y)) (filter_map F (map view (drop (i + 1) xs)))))
       here
       ∙ sym (at_drop_more (λ (ys : List X). last_or (option_map see found) (filter_map F (map view ys))) xs i x below)
-
-  pub from_index-end : (found : Option A) (xs : List X) (i : ℕ) → length xs ≤ i
-      → from_index found xs i ≡ option_map see found
-  from_index-end found xs i over =
-      at_drop_all (λ (ys : List X). last_or (option_map see found) (filter_map F (map view ys))) xs i over

@@ -2,7 +2,6 @@ pub use Rattle.gimli_lines_header.specs.AbbreviationViews
 pub use Rattle.gimli_lines_header.specs.Declarations
 pub use Rattle.gimli_lines_header.specs.TableCache
 pub use Rattle.gimli_lines_header.specs.TableParsing
-pub use Rattle.gimli_lines_header.specs.AbbreviationsCache
 pub use Rattle.gimli_units_entries.specs.Calls
 pub use Rattle.gimli_units_entries.specs.Parsers
 pub use Rattle.gimli_units_entries.specs.Repetition
@@ -33,7 +32,6 @@ pub use Rattle.gimli_lines_header.specs.UnitHeaders
 pub use Rattle.gimli_lines_header.specs.UnitOffsets
 pub use Rattle.gimli_units_lists.specs.ListSections
 pub use Rattle.gimli_units_entries.specs.FormWidths
-pub use Rattle.gimli_units_lists.specs.DefaultBases
 pub use Rattle.gimli_units_lists.specs.Iterators
 pub use Rattle.gimli_units_lists.specs.NumberParsers
 pub use Rattle.gimli_units_lists.specs.Readers

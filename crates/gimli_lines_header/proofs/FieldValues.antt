@@ -4,7 +4,6 @@ use Rattle.std.proofs.lemmas.Bool.{ltb-false}
 use Rattle.std.proofs.lemmas.List.{length-take-le}
 use Rattle.std.specs.Prelude.{◌==◌, not, nat_lt}
 use Rattle.gimli_units_headers.specs.Error.{Error}
-use Rattle.gimli_units_headers.specs.Error.TheVariants.{UnknownForm}
 use Rattle.gimli_units_headers.specs.View.{View, after, bytes_left, unexpected_end}
 use Rattle.gimli_units_headers.specs.Parsers.{Parser, ◌>>=◌, proceed, give, lift, part, map_value, null_terminated, skip, find_byte, text_to}
 use Rattle.gimli_units_headers.specs.Encoding.{Encoding}
@@ -44,12 +43,6 @@ unfolding entry_value attribute value
 field_is limit e form v known direct =
     rw known (rw (own_form form v direct)
     (value_alone form (spelled_value limit e 0 form None (spelling e form) v)))
-
--- where it may not be, there is none
-pub field_refused : (limit : ℕ) (e : Encoding) (form : ℕ) (v : View) → is_entry_form form ≡ false
-    → entry_value limit e form v ≡ Err (UnknownForm (record { 0 = form }))
-unfolding entry_value
-field_refused limit e form v unknown = rw unknown refl
 
 -- a value that isn't refused
 abbrev answer : RawValue → Result RawValue Error

@@ -7,7 +7,8 @@ use Rattle.gimli_units_headers.specs.Parsers.{Step, proceed, give, lift, value_o
 use Rattle.gimli_units_headers.specs.NumberParsers.{initial_length, word}
 use Rattle.gimli_units_headers.specs.Encoding.{Encoding}
 use Rattle.gimli_units_headers.specs.Format.{Format}
-use Rattle.gimli_lines_header.specs.Checks.{check, refusal_of}
+use Rattle.gimli_units_headers.specs.Results.{refusal_of}
+use Rattle.gimli_lines_header.specs.Checks.{check}
 use Rattle.gimli_lines_header.specs.HeaderTables.{directories, files}
 use Rattle.gimli_lines_header.specs.HeaderParsing.{Bounds, LineUnit, line_sizes, line_parameters, opcodes, header_fields, header_in, line_header, header_at}
 

@@ -1,12 +1,11 @@
 -- Entries whose fields are the usual ones: what an entry says where its fields are known, and that it leaves what comes
 -- after some bytes.
-use Rattle.std.proofs.Common.{◌≡◌, ℕ, ◌+◌, List, [], ◌∷◌, Bool, Option, Some, None, Result, Ok, refl, sym, ◌∙◌, ap, eqb}
+use Rattle.std.proofs.Common.{◌≡◌, ℕ, List, [], ◌∷◌, Bool, Option, Some, None, Result, Ok, refl, sym, ◌∙◌, ap}
 use Rattle.std.specs.Prelude.{unwrap_or}
-use Rattle.std.specs.List.{position}
 use Rattle.gimli_units_headers.specs.Error.{Error}
 use Rattle.gimli_units_headers.specs.Error.TheVariants.{MissingFileEntryFormatPath, UnknownForm}
-use Rattle.gimli_units_headers.specs.View.{View, after, prefix}
-use Rattle.gimli_units_headers.specs.Parsers.{◌>>=◌, proceed, give, fail, map_value, some_or, index_or_end, text_to, null_terminated}
+use Rattle.gimli_units_headers.specs.View.{View, after}
+use Rattle.gimli_units_headers.specs.Parsers.{◌>>=◌, proceed, give, fail, map_value, some_or}
 use Rattle.gimli_units_headers.specs.Encoding.{Encoding}
 use Rattle.gimli_units_headers.proofs.StepParts.{begins, value_is, state_is, read}
 use Rattle.gimli_units_forms.specs.Places.{IsAfter}
@@ -14,11 +13,11 @@ use Rattle.gimli_units_forms.specs.AttributeValues.{RawValue, RawAttribute}
 use Rattle.gimli_units_forms.specs.AttributeMeanings.{unsigned_of}
 use Rattle.gimli_units_forms.specs.AttributeReading.{attribute}
 use Rattle.gimli_units_forms.proofs.FormSizes.{made-after}
-use Rattle.gimli_units_forms.proofs.PlaceLemmas.{Goes, Goes-onward, Goes-give, Goes-fail, Goes-branch, IsAfter-IsAfter, after-zero}
+use Rattle.gimli_units_forms.proofs.PlaceLemmas.{Goes, Goes-onward, Goes-give, Goes-fail, Goes-branch, IsAfter-IsAfter}
 use Rattle.gimli_lines_header.specs.declared.formats.FileEntryFormat.{FileEntryFormat}
 use Rattle.gimli_lines_header.specs.LineFiles.{FileFacts, no_md5, path_content, directory_content, md5_content}
 use Rattle.gimli_lines_header.specs.TableEntries.{Field, EntryFacts, is_entry_form, entry_value, entry_fields, digest_of, facts_after, no_facts, entry, directory_entry, file_entry}
-use Rattle.gimli_lines_header.specs.UsualFormats.{format_of}
+use Rattle.gimli_lines_header.specs.UsualFormats.{field_format}
 
 -- ---- places
 
@@ -90,20 +89,20 @@ file_said limit e formats v w fields path are is =
 -- a directory, by its path
 pub usual_directory : (limit : ℕ) (e : Encoding) (form : ℕ) (v w : View) (x : RawValue)
     → entry_value limit e form v ≡ Ok (x, w)
-    → directory_entry limit e (format_of path_content form ∷ []) v ≡ Ok (x, w)
+    → directory_entry limit e (field_format path_content form ∷ []) v ≡ Ok (x, w)
 unfolding directory_entry entry
 usual_directory limit e form v w x is =
     ap (λ (r : Result (List Field × View) Error). proceed
     (proceed r (λ fs. give (facts_after v.is_big no_facts fs)))
     (λ facts. some_or MissingFileEntryFormatPath facts.path))
-    (field_first limit e (format_of path_content form) [] v w w x [] is (no_fields limit e w))
+    (field_first limit e (field_format path_content form) [] v w w x [] is (no_fields limit e w))
 
 -- the same at a borrowed place, and how far it goes
 pub directory_found : (limit : ℕ) (e : Encoding) (form : ℕ) (v u w r : View) (x : RawValue)
     → u ≡ v → entry_value limit e form u ≡ Ok (x, w) → r ≡ w
-    → directory_entry limit e (format_of path_content form ∷ []) v ≡ Ok (x, r)
+    → directory_entry limit e (field_format path_content form ∷ []) v ≡ Ok (x, r)
 directory_found limit e form v u w r x same is rest =
-    ap (λ (s : View). directory_entry limit e (format_of path_content form ∷ []) s) (sym same)
+    ap (λ (s : View). directory_entry limit e (field_format path_content form ∷ []) s) (sym same)
     ∙ usual_directory limit e form u w x is
     ∙ ap (λ (s : View). read x s) (sym rest)
 
@@ -133,13 +132,16 @@ meant limit e form meaning v w y is =
 pub usual_file : (limit : ℕ) (e : Encoding) (path directory : ℕ) (v s t : View) (x : RawValue) (n : ℕ)
     (file : FileFacts) → entry_value limit e path v ≡ Ok (x, s)
     → map_value unsigned_of (entry_value limit e directory) s ≡ Ok (Some n, t) → file ≡ file_of_fields x n no_md5
-    → file_entry limit e (format_of path_content path ∷ format_of directory_content directory ∷ []) v ≡ Ok (file, t)
+    → file_entry limit e (field_format path_content path ∷ field_format directory_content directory ∷ []) v
+    ≡ Ok (file, t)
 usual_file limit e path directory v s t x n file first second is =
     let number = meant limit e directory unsigned_of s t (Some n) second in
-    let fields = field_first limit e (format_of path_content path) (format_of directory_content directory ∷ []) v s t x
+    let fields = field_first limit e (field_format path_content path) (field_format directory_content directory ∷ [])
+    v s t x
     (record { content = directory_content; value = number.0 } ∷ []) first
-    (field_first limit e (format_of directory_content directory) [] s t t number.0 [] number.1 (no_fields limit e t)) in
-    file_said limit e (format_of path_content path ∷ format_of directory_content directory ∷ []) v t
+    (field_first limit e (field_format directory_content directory) [] s t t number.0 [] number.1
+    (no_fields limit e t)) in
+    file_said limit e (field_format path_content path ∷ field_format directory_content directory ∷ []) v t
     (record { content = path_content; value = x } ∷ record { content = directory_content; value = number.0 } ∷ []) x
     fields refl
     ∙ ap (λ (o : Option ℕ). read (file_of_fields x (unwrap_or o 0) no_md5) t) number.2
@@ -150,22 +152,22 @@ pub usual_file_with_digest : (limit : ℕ) (e : Encoding) (path directory digest
     (n : ℕ) (md5 : List ℕ) (file : FileFacts) → entry_value limit e path v ≡ Ok (x, s)
     → map_value unsigned_of (entry_value limit e directory) s ≡ Ok (Some n, t)
     → map_value (digest_of t.is_big) (entry_value limit e digest) t ≡ Ok (Some md5, u) → file ≡ file_of_fields x n md5
-    → file_entry limit e (format_of path_content path ∷ format_of directory_content directory
-    ∷ format_of md5_content digest ∷ []) v ≡ Ok (file, u)
+    → file_entry limit e (field_format path_content path ∷ field_format directory_content directory
+    ∷ field_format md5_content digest ∷ []) v ≡ Ok (file, u)
 usual_file_with_digest limit e path directory digest v s t u x n md5 file first second third is =
     let number = meant limit e directory unsigned_of s t (Some n) second in
     let bytes = meant limit e digest (digest_of t.is_big) t u (Some md5) third in
     let order : t.is_big ≡ v.is_big = same_order v t (IsAfter-IsAfter v s t (value-after limit e path v s x first)
     (value-after limit e directory s t number.0 number.1)) in
-    let last = format_of md5_content digest ∷ [] in
-    let fields = field_first limit e (format_of path_content path) (format_of directory_content directory ∷ last)
+    let last = field_format md5_content digest ∷ [] in
+    let fields = field_first limit e (field_format path_content path) (field_format directory_content directory ∷ last)
     v s u x
     (record { content = directory_content; value = number.0 } ∷ record { content = md5_content; value = bytes.0 } ∷ [])
     first
-    (field_first limit e (format_of directory_content directory) last s t u number.0
+    (field_first limit e (field_format directory_content directory) last s t u number.0
     (record { content = md5_content; value = bytes.0 } ∷ []) number.1
-    (field_first limit e (format_of md5_content digest) [] t u u bytes.0 [] bytes.1 (no_fields limit e u))) in
-    file_said limit e (format_of path_content path ∷ format_of directory_content directory ∷ last) v u
+    (field_first limit e (field_format md5_content digest) [] t u u bytes.0 [] bytes.1 (no_fields limit e u))) in
+    file_said limit e (field_format path_content path ∷ field_format directory_content directory ∷ last) v u
     (record { content = path_content; value = x } ∷ record { content = directory_content; value = number.0 }
     ∷ record { content = md5_content; value = bytes.0 } ∷ []) x
     fields refl
@@ -207,21 +209,3 @@ file-after limit e formats v w file h =
     (Goes-entry_fields limit e formats) (λ fields. Goes-give (facts_after v.is_big no_facts fields)))
     (λ facts. Goes-onward (some_or MissingFileEntryFormatPath facts.path) (λ path. give (file_of facts path))
     (Goes-some_or MissingFileEntryFormatPath facts.path) (λ path. Goes-give (file_of facts path)))).goes v file w h
-
--- ---- texts
-
-abbrev text_read : View → View → Result (View × View) Error
-text_read text w = Ok (text, w)
-
-abbrev one_view : View → Result View Error
-one_view v = Ok v
-
--- a text before the zero byte that was found
-pub text_found : (v u text w : View) (n : ℕ) → position (λ x. eqb x 0) v.bytes ≡ Some n → v ≡ u
-    → one_view (prefix n (after 0 u)) ≡ one_view text → w ≡ after (n + 1) v → null_terminated v ≡ Ok (text, w)
-text_found v u text w n found same is rest =
-    let cut : prefix n (after 0 u) ≡ text = cc in
-    let all : prefix n v ≡ text = ap (λ (x : View). prefix n x) (same ∙ sym (after-zero u)) ∙ cut in
-    ap (λ (o : Option ℕ). text_to (index_or_end o v) v) found
-    ∙ ap (λ (t : View). text_read t (after (n + 1) v)) all
-    ∙ ap (λ (t : View). text_read text t) (sym rest)

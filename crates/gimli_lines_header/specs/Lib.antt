@@ -2,7 +2,6 @@ pub use Rattle.gimli_units_forms.specs.AbbreviationViews
 pub use Rattle.gimli_units_forms.specs.Declarations
 pub use Rattle.gimli_units_forms.specs.TableCache
 pub use Rattle.gimli_units_forms.specs.TableParsing
-pub use Rattle.gimli_units_forms.specs.AbbreviationsCache
 pub use Rattle.gimli_units_forms.specs.AttributeMeanings
 pub use Rattle.gimli_units_forms.specs.AttributeReading
 pub use Rattle.gimli_units_forms.specs.FormSpellings

@@ -6,16 +6,16 @@ use Rattle.gimli_lines_header.specs.declared.usual_entries.UsualFields.{UsualFie
 use Rattle.gimli_lines_header.specs.declared.usual_entries.UsualFields.TheVariants.{Path, PathAndDirectory, PathDirectoryAndDigest}
 use Rattle.gimli_lines_header.specs.LineFiles.{path_content, directory_content, md5_content}
 
--- a content in a form
-abbrev pub format_of : ℕ → ℕ → FileEntryFormat
-format_of content form =
+-- a field of a content in a form
+abbrev pub field_format : ℕ → ℕ → FileEntryFormat
+field_format content form =
     record { content_type = record { 0 = content }; form = record { 0 = form } }
 
 -- the formats of fields that are usual
 abbrev pub usual_formats : UsualFields → List FileEntryFormat
-usual_formats (Path path) = format_of path_content path.0 ∷ []
+usual_formats (Path path) = field_format path_content path.0 ∷ []
 usual_formats (PathAndDirectory path directory) =
-    format_of path_content path.0 ∷ format_of directory_content directory.0 ∷ []
+    field_format path_content path.0 ∷ field_format directory_content directory.0 ∷ []
 usual_formats (PathDirectoryAndDigest path directory) =
-    format_of path_content path.0 ∷ format_of directory_content directory.0
-    ∷ format_of md5_content DW_FORM_data16.0 ∷ []
+    field_format path_content path.0 ∷ field_format directory_content directory.0
+    ∷ field_format md5_content DW_FORM_data16.0 ∷ []

@@ -1,17 +1,17 @@
 //! The values of fields in version 5: each kind of field goes from the bytes to what is kept.
 
-ghost use Rattle.std.specs.Prelude.{◌≡◌, ◌≤◌, IfSome, Ok};
+ghost use Rattle.std.specs.Prelude.{◌≡◌};
 ghost use Rattle.gimli_units_headers.specs.Calls.{Reads, ReturnsAs, ReturnsAsOrNoMemory};
 ghost use Rattle.gimli_units_headers.specs.Fixed.{number_bytes};
 ghost use Rattle.gimli_units_headers.specs.NumberParsers.{unsigned, word};
 ghost use Rattle.gimli_units_headers.specs.Parsers.{map_value, null_terminated, skip};
-ghost use Rattle.gimli_units_headers.specs.View.{after, bytes_left};
+ghost use Rattle.gimli_units_headers.specs.View.{bytes_left};
 ghost use Rattle.gimli_units_forms.specs.AttributeMeanings.{unsigned_of};
 ghost use Rattle.gimli_units_forms.specs.AttributeValues.{raw_value_of};
 ghost use Rattle.gimli_lines_header.specs.Checks.{check};
 ghost use Rattle.gimli_lines_header.specs.TableEntries.{is_entry_form, entry_value, digest_of};
 
-use gimli_units_forms::{AttributeSpecification, AttributeValue, parse_attribute};
+use gimli_units_forms::{AttributeSpecification, AttributeValue, parse_attribute, short_number};
 use gimli_units_headers::{
     DW_FORM_block, DW_FORM_block1, DW_FORM_block2, DW_FORM_block4, DW_FORM_data1, DW_FORM_data2,
     DW_FORM_data4, DW_FORM_data8, DW_FORM_data16, DW_FORM_flag, DW_FORM_line_strp, DW_FORM_sdata,
@@ -68,19 +68,6 @@ pub(crate) fn read_word<O: ReaderOffset, I: Reader>(
         Format::Dwarf64 => input.read_u64()?,
     };
     O::from_u64(number)
-}
-
-// The next byte, where it is an unsigned LEB128 number by itself.
-#[inline(always)]
-fn short_number<I: Reader>(input: &I) -> Option<u64>
-    ensures number { IfSome result
-        (λ n. unsigned (I.view input.now) ≡ Ok (n, after 1 (I.view input.now))) }
-    ensures there { IfSome result (λ n. 1 ≤ bytes_left (I.view input.now)) }
-{
-    match input.as_bytes() {
-        [number, ..] if *number < 128 => Some(u64::from(*number)),
-        _ => None,
-    }
 }
 
 // An unsigned LEB128 number: one byte in most entries.

@@ -10,7 +10,6 @@ pub use Rattle.gimli_core_readers.specs.DwLang
 pub use Rattle.gimli_core_readers.specs.TheConstants
 pub use Rattle.gimli_core_readers.specs.Error
 pub use Rattle.gimli_core_readers.specs.Fault
-pub use Rattle.gimli_core_readers.specs.RunTimeEndian
 pub use Rattle.gimli_core_readers.specs.Addresses
 pub use Rattle.gimli_core_readers.specs.Iterators
 pub use Rattle.gimli_core_readers.specs.Readers

@@ -1,5 +1,4 @@
 pub use Rattle.gimli_lines_machine.proofs.RefusedCalls
-pub use Rattle.gimli_lines_machine.proofs.StepParts
 mod Operands
 mod Unfoldings
 mod NumericSteps

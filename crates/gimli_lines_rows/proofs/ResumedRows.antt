@@ -1,5 +1,5 @@
 -- Rows of a path, given again by a reader of the bytes that the path took, whatever files its header has.
-use Rattle.std.proofs.Common.{◌≡◌, ◌≢◌, ℕ, ◌+◌, ◌-◌, ◌<◌, ◌≤◌, inl, inr, Bool, true, false, cond, eqb, ◌&&◌, List, [], ◌∷◌, ◌++◌, map, length, take, Option, Some, None, Result, Ok, Err, refl, sym, ap, ◌∙◌, arith, length-drop}
+use Rattle.std.proofs.Common.{◌≡◌, ◌≢◌, ℕ, ◌+◌, ◌-◌, ◌<◌, ◌≤◌, inl, inr, Bool, true, false, cond, eqb, ◌&&◌, List, [], ◌∷◌, ◌++◌, map, length, take, Option, Some, None, Result, Ok, refl, sym, ap, ◌∙◌, arith, length-drop}
 use Rattle.std.proofs.lemmas.List.{length-take}
 use Rattle.std.proofs.lemmas.Bool.{ne_eqb}
 use Rattle.gimli_lines_machine.specs.Error.{Error}
@@ -18,7 +18,7 @@ use Rattle.gimli_lines_machine.proofs.ByteCountLemmas.{after_after}
 use Rattle.gimli_lines_machine.proofs.CutBytes.{after_front, after_zero}
 use Rattle.gimli_lines_machine.proofs.CutInstructions.{cut-instruction}
 use Rattle.gimli_lines_rows.specs.ProgramInstructions.{rules_of, instruction_in, next_instruction}
-use Rattle.gimli_lines_rows.specs.ProgramRows.{Row, RemainingRows, TakesNoFile, HeaderAfter, header_after, header_with, rows_to_come, is_shown_by, state_after, next_step, Path, stays, shows, passes}
+use Rattle.gimli_lines_rows.specs.ProgramRows.{Row, RemainingRows, TakesNoFile, header_after, header_with, rows_to_come, is_shown_by, state_after, next_step, Path, stays, shows, passes}
 use Rattle.gimli_lines_rows.specs.RowSequences.{registers_of, row_under}
 use Rattle.gimli_lines_rows.proofs.LineRowSteps.{StepsTo, step_parts, step_smaller, come_after, come_nothing, row_first}
 
@@ -37,13 +37,6 @@ pub rules_after : (takes_files : Bool) (i : InstructionOf FileFacts) (h : LineHe
     → (rules_of (header_after takes_files i h) ≡ rules_of h) × (counts_of (header_after takes_files i h) ≡ counts_of h)
 rules_after takes_files (define_file file) h = rules_with takes_files file h
 rules_after takes_files _ h = (refl, refl)
-
--- a call that executes an instruction leaves a program's rules as they are
-pub rules_stay : (r : Result Bool Error) (takes_files : Bool) (i : InstructionOf FileFacts) (old new : LineHeader)
-    (rules : LineRules) → HeaderAfter r takes_files i old new → rules ≡ rules_of old → rules ≡ rules_of new
-rules_stay (Ok b) takes_files i old new rules led is =
-    is ∙ sym (rules_after takes_files i old).0 ∙ ap rules_of (sym led)
-rules_stay (Err e) takes_files i old new rules same is = is ∙ ap rules_of (sym same)
 
 header_same : (i : InstructionOf FileFacts) (h : LineHeader) → header_after false i h ≡ h
 header_same (define_file file) h = refl

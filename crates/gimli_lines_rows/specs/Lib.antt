@@ -5,7 +5,6 @@ pub use Rattle.gimli_lines_machine.specs.View
 pub use Rattle.gimli_lines_machine.specs.DwarfFileType
 pub use Rattle.gimli_lines_machine.specs.DwLang
 pub use Rattle.gimli_lines_machine.specs.Error
-pub use Rattle.gimli_lines_machine.specs.RunTimeEndian
 pub use Rattle.gimli_lines_machine.specs.Iterators
 pub use Rattle.gimli_lines_machine.specs.Range
 pub use Rattle.gimli_lines_header.specs.HeaderParsing

@@ -22,12 +22,11 @@ pub use gimli_lines_header::{
     FileEntry, FileEntryFormat, LineProgramHeader, UnitHeader, UnitType, header_laws,
 };
 pub use gimli_lines_machine::{
-    DW_AT_high_pc, DW_AT_language, DW_AT_low_pc, DW_AT_ranges, DW_LANG_Rust, DebugAbbrevOffset,
-    DebugAddr, DebugAddrIndex, DebugLineStr, DebugLineStrOffset, DebugRngListsIndex, DebugStr,
-    DebugStrOffset, DebugStrOffsets, DebugStrOffsetsIndex, DwLang, DwarfFileType, DwoId,
-    EndianBytes, EndianSlice, Error, Format, LineRules, LittleEndian, Range, RangeListsOffset,
-    RawRangeListsOffset, Reader, ReaderOffset, ReaderOffsetId, RunTimeEndian, SectionId,
-    UnitOffset,
+    DW_AT_high_pc, DW_AT_language, DW_AT_low_pc, DW_AT_ranges, DebugAbbrevOffset, DebugAddr,
+    DebugAddrIndex, DebugLineStr, DebugLineStrOffset, DebugRngListsIndex, DebugStr, DebugStrOffset,
+    DebugStrOffsets, DebugStrOffsetsIndex, DwLang, DwarfFileType, DwoId, EndianBytes, EndianSlice,
+    Error, Format, LineRules, LittleEndian, Range, RangeListsOffset, RawRangeListsOffset, Reader,
+    ReaderOffset, RunTimeEndian, SectionId, UnitOffset,
 };
 pub use instruction::LineInstruction;
 pub use instructions::{LineInstructions, ProgramInstructions};

@@ -15,7 +15,6 @@ pub use Rattle.gimli_core_base.specs.declared.common.LineEncoding
 pub use Rattle.gimli_core_base.specs.declared.common.SectionId
 pub use Rattle.gimli_core_base.specs.declared.constants.TheConstants
 pub use Rattle.gimli_core_base.specs.declared.error.Error
-pub use Rattle.gimli_core_base.specs.declared.order.RunTimeEndian
 pub use Rattle.gimli_core_base.specs.ByteOrders
 pub mod WriteErrorText
 pub mod OutputBytes

@@ -1,27 +1,26 @@
 -- A program that a header can express is refused only where a number is too large, or where the writer refuses an
 -- address.
 use Rattle.std.proofs.Common.{◌≡◌, ◌⊎◌, inl, inr, ℕ, ◌≤◌, ◌^◌, nat_lt, nat_le, Bool, true, false, cond, ◌&&◌, List, [], ◌∷◌, ◌++◌, map, length, get_or, Option, Some, None, unwrap_or, Result, Ok, Err, refl, sym, ap, subst, ◌∙◌, arith}
-use Rattle.std.specs.Prelude.{All, ◌==◌, is_none, if◌then◌else◌}
+use Rattle.std.specs.Prelude.{All, flat_map, is_none, if◌then◌else◌}
 use Rattle.std.specs.List.{list_any}
 use Rattle.std.specs.Option.{IfSome}
 use Rattle.std.proofs.lemmas.Bool.{eq-eqb, le-ltb, ltb-true}
-use Rattle.std.proofs.lemmas.List.Elements.{All-nil, All-cons, All-head, All-tail, All-weaker, All-map}
+use Rattle.std.proofs.lemmas.List.Elements.{All-nil, All-cons, All-head, All-tail, All-append, All-weaker, All-map}
 use Rattle.std.proofs.lemmas.List.Folds.{list_any_at}
 use Rattle.gimli_lines_write_unit.specs.Encoding.{Encoding}
 use Rattle.gimli_lines_write_unit.specs.Format.{Format}
 use Rattle.gimli_lines_write_unit.specs.Format.TheVariants.{Dwarf32, Dwarf64}
 use Rattle.gimli_lines_write_unit.specs.FormatSizes.{word_size}
 use Rattle.gimli_lines_write_unit.specs.Fixed.{number_bytes}
-use Rattle.gimli_lines_write_unit.specs.Spelling.{unsigned_string}
 use Rattle.gimli_lines_write_unit.specs.WriteError.{Error}
 use Rattle.gimli_lines_write_unit.specs.WriteError.TheVariants.{ValueTooLarge, InitialLengthOverflow, NeedVersion}
 use Rattle.gimli_lines_write_unit.specs.NumberBytes.{bytes_in_width, length_bytes}
 use Rattle.gimli_lines_write_unit.specs.EntryBytes.{join_bytes, entries_bytes}
-use Rattle.gimli_lines_write_unit.specs.HeaderTexts.{form_of, form_in}
-use Rattle.gimli_lines_write_unit.specs.HeaderBytes.{mismatch, sized_text, text_bytes, all_bytes, bytes_after_path, file_bytes_to_4, file_bytes_of_5, directory_entries_bytes, directories_bytes, form_of_paths, form_of_sources, described_files, files_bytes, tables_bytes, header_bytes}
+use Rattle.gimli_lines_write_unit.specs.HeaderTexts.{form_of, form_in, form_in_version}
+use Rattle.gimli_lines_write_unit.specs.HeaderBytes.{bytes_or_refusal, mismatch, offset_refusals, reference_refusals, text_refusals, directories_refusals, file_refusals, files_refusals, header_refusals, header_bytes}
 use Rattle.gimli_lines_write_unit.specs.UnitBytes.{body_bytes, with_length, unit_with_length, unit_bytes}
-use Rattle.gimli_lines_write_unit.specs.EntryFields.{WrittenFile, Details, directory_formats, file_formats, spelled_formats}
-use Rattle.gimli_lines_write_unit.specs.HeaderSpelling.{Tables, spelled_parameters, spelled_opcodes}
+use Rattle.gimli_lines_write_unit.specs.EntryFields.{WrittenFile}
+use Rattle.gimli_lines_write_unit.specs.HeaderSpelling.{Tables, path_form, source_form, spelled_header}
 use Rattle.gimli_lines_write_unit.specs.LineRules.{LineRules}
 use Rattle.gimli_lines_write_unit.specs.LineEntry.{LineEntry}
 use Rattle.gimli_lines_write_unit.specs.Address.{Address}
@@ -29,6 +28,7 @@ use Rattle.gimli_lines_write_unit.specs.BuiltRows.{first_row}
 use Rattle.gimli_lines_write_unit.specs.FileTables.{Text, in_header, of_strings, of_line_strings, Info, ProgramFiles}
 use Rattle.gimli_lines_write_unit.specs.HeaderContents.{header_text, listed_directories, records_source, source_text, header_tables, first_source, empty_form_of, empty_text, strings_after, line_strings_after}
 use Rattle.gimli_lines_write_unit.specs.declared.details.FileDetails.{FileDetails}
+use Rattle.gimli_lines_write_unit.proofs.RefusedBytes.{word_is}
 use Rattle.gimli_lines_write_unit.proofs.KnownTexts.{All-view}
 use Rattle.gimli_lines_write_laws.proofs.WrittenForms.{form_same, first_form_same, paths_written, sources_written}
 use Rattle.gimli_lines_write_laws.specs.ExpressiblePrograms.{text_form, list_form, HasOneForm, sources_of, paths_of, IsExpressible, IsTooLarge}
@@ -51,114 +51,93 @@ join_refuses P (Ok a) (Ok b) one two = ok_refuses P (a ++ b)
 join_refuses P (Ok a) (Err e) one two = two
 join_refuses P (Err e) s one two = one
 
-pub all_refuses : {A : Type 0} (P : Error → Type 0) (f : A → Result (List ℕ) Error) (xs : List A)
-    → All (λ x. Refuses P (f x)) xs → Refuses P (all_bytes f xs)
-all_refuses P f [] all = ok_refuses P []
-all_refuses P f (x ∷ xs) all =
-    join_refuses P (f x) (all_bytes f xs) (All-head (λ y. Refuses P (f y)) x xs all)
-    (all_refuses P f xs (All-tail (λ y. Refuses P (f y)) x xs all))
+bytes_refuse : (P : Error → Type 0) (rs : List Error) (bytes : List ℕ) → All P rs
+    → Refuses P (bytes_or_refusal rs bytes)
+bytes_refuse P [] bytes all = ok_refuses P bytes
+bytes_refuse P (e ∷ rs) bytes all = err_refuses P e (All-head P e rs all)
+
+All-flat_map : {A B : Type 0} (P : B → Type 0) (f : A → List B) (xs : List A) → All (λ x. All P (f x)) xs
+    → All P (flat_map f xs)
+All-flat_map P f [] all = All-nil P
+All-flat_map P f (x ∷ xs) all = All-append P (f x) (flat_map f xs) (All-head (λ y. All P (f y)) x xs all)
+    (All-flat_map P f xs (All-tail (λ y. All P (f y)) x xs all))
 
 -- ---- numbers and texts
 
 module _ (P : Error → Type 0) (large : (e : Error) → IsTooLarge e → P e) (is_big : Bool) where
-  pub word_refuses : (format : Format) (n : ℕ) → Refuses P (bytes_in_width is_big (word_size format) n)
-  word_refuses Dwarf32 n = by (nat_lt n (256 ^ 4))
+  offset_large : (format : Format) (n : ℕ) → All P (offset_refusals format n)
+  offset_large format n = by (nat_lt n (256 ^ word_size format))
     where
-      by : (b : Bool) → Refuses P (cond b (Ok (number_bytes is_big 4 n)) (Err ValueTooLarge))
-      by true = ok_refuses P _
-      by false = err_refuses P ValueTooLarge (large ValueTooLarge (inl refl))
-  word_refuses Dwarf64 n = by (nat_lt n (256 ^ 8))
-    where
-      by : (b : Bool) → Refuses P (cond b (Ok (number_bytes is_big 8 n)) (Err ValueTooLarge))
-      by true = ok_refuses P _
-      by false = err_refuses P ValueTooLarge (large ValueTooLarge (inl refl))
+      by : (b : Bool) → All P (cond b [] (ValueTooLarge ∷ []))
+      by true = All-nil P
+      by false = All-cons P ValueTooLarge [] (large ValueTooLarge (inl refl)) (All-nil P)
 
-  sized_refuses : (format : Format) (t : Text) → Refuses P (sized_text is_big format t)
-  sized_refuses format (in_header text) = ok_refuses P _
-  sized_refuses format (of_strings offset) = word_refuses format offset
-  sized_refuses format (of_line_strings offset) = word_refuses format offset
+  word_refuses : (format : Format) (n : ℕ) → Refuses P (bytes_in_width is_big (word_size format) n)
+  word_refuses format n = subst (Refuses P) (sym (word_is is_big format n))
+      (bytes_refuse P (offset_refusals format n) (number_bytes is_big (word_size format) n) (offset_large format n))
 
-  pub text_refuses : (e : Encoding) (form : ℕ) (t : Text) → form_of t ≡ form
-      → Refuses P (text_bytes is_big e form t)
-  text_refuses e form t is =
-      subst (λ b. Refuses P (cond b (sized_text is_big e.format t) (Err (mismatch e.version))))
-      (sym (same_number (form_of t) form is)) (sized_refuses e.format t)
-    where
-      same_number : (a b : ℕ) → a ≡ b → (a == b) ≡ true
-      same_number a b h = eq-eqb a b h
+  reference_large : (format : Format) (t : Text) → All P (reference_refusals format t)
+  reference_large format (in_header text) = All-nil P
+  reference_large format (of_strings offset) = offset_large format offset
+  reference_large format (of_line_strings offset) = offset_large format offset
+
+  text_large : (e : Encoding) (form : ℕ) (t : Text) → form_of t ≡ form → All P (text_refusals e form t)
+  text_large e form t is =
+      subst (λ b. All P (cond b (reference_refusals e.format t) (mismatch e.version ∷ [])))
+      (sym (eq-eqb (form_of t) form is)) (reference_large e.format t)
 
   -- ---- tables
 
-  directories_refuse : (e : Encoding) (ts : List Text)
-      → All (λ t. form_of t ≡ cond (nat_le e.version 4) 0x08 (form_in ts)) ts
-      → Refuses P (directories_bytes is_big e ts)
-  directories_refuse e ts all = by (nat_le e.version 4) all
-    where
-      by : (b : Bool) → All (λ t. form_of t ≡ cond b 0x08 (form_in ts)) ts
-          → Refuses P (cond b (join_bytes (all_bytes (text_bytes is_big e 0x08) ts) (Ok (0 ∷ [])))
-          (directory_entries_bytes is_big e ts))
-      by true h = join_refuses P _ _ (all_refuses P (text_bytes is_big e 0x08) ts
-          (All-weaker (λ t. form_of t ≡ 0x08) (λ t. Refuses P (text_bytes is_big e 0x08 t))
-          (λ t is. text_refuses e 0x08 t is) ts h))
-          (ok_refuses P (0 ∷ []))
-      by false h = join_refuses P (Ok (spelled_formats (directory_formats (form_in ts)))) _
-          (ok_refuses P (spelled_formats (directory_formats (form_in ts))))
-          (join_refuses P (Ok (unsigned_string (length ts))) _ (ok_refuses P (unsigned_string (length ts)))
-          (all_refuses P (text_bytes is_big e (form_in ts)) ts
-          (All-weaker (λ t. form_of t ≡ form_in ts) (λ t. Refuses P (text_bytes is_big e (form_in ts) t))
-          (λ t is. text_refuses e (form_in ts) t is) ts h)))
+  directories_large : (e : Encoding) (ts : List Text) → All (λ t. form_of t ≡ form_in_version e.version (form_in ts)) ts
+      → All P (directories_refusals e ts)
+  directories_large e ts all =
+      let form = form_in_version e.version (form_in ts) in
+      All-flat_map P (text_refusals e form) ts (All-weaker (λ t. form_of t ≡ form)
+      (λ t. All P (text_refusals e form t)) (λ t is. text_large e form t is) ts all)
 
-  file_refuses : (e : Encoding) (d : Details) (path_form source_form : ℕ) (f : WrittenFile) → form_of f.path ≡ path_form
-      → (d.has_source ≡ true → form_of f.source ≡ source_form)
-      → Refuses P (file_bytes_of_5 is_big e d path_form source_form f)
-  file_refuses e d path_form source_form f path source =
-      join_refuses P _ _ (text_refuses e path_form f.path path) (join_refuses P _ _ (ok_refuses P _)
-      (by d.has_source source))
+  file_large : (e : Encoding) (has_source : Bool) (path_form source_form : ℕ) (f : WrittenFile)
+      → form_of f.path ≡ path_form → (has_source ≡ true → form_of f.source ≡ source_form)
+      → All P (file_refusals e has_source path_form source_form f)
+  file_large e has_source path_form source_form f path source =
+      All-append P _ _ (text_large e path_form f.path path) (by has_source source)
     where
       by : (b : Bool) → (b ≡ true → form_of f.source ≡ source_form)
-          → Refuses P (if b then text_bytes is_big e source_form f.source else Ok [])
-      by true h = text_refuses e source_form f.source (h refl)
-      by false h = ok_refuses P []
+          → All P (cond b (text_refusals e source_form f.source) [])
+      by true h = text_large e source_form f.source (h refl)
+      by false h = All-nil P
 
-  files_refuse : (e : Encoding) (d : Details) (fs : List WrittenFile)
-      → All (λ (f : WrittenFile). form_of f.path ≡ cond (nat_le e.version 4) 0x08 (form_of_paths fs)) fs
-      → (nat_le e.version 4 ≡ false → d.has_source ≡ true
-      → All (λ (f : WrittenFile). form_of f.source ≡ form_of_sources fs) fs) → Refuses P (files_bytes is_big e d fs)
-  files_refuse e d fs paths sources = by (nat_le e.version 4) paths sources
+  files_large : (e : Encoding) (t : Tables)
+      → All (λ (f : WrittenFile). form_of f.path ≡ form_in_version e.version (path_form t)) t.files
+      → (nat_le e.version 4 ≡ false → t.details.has_source ≡ true
+      → All (λ (f : WrittenFile). form_of f.source ≡ source_form t) t.files) → All P (files_refusals e t)
+  files_large e t paths sources = by (nat_le e.version 4) paths sources
     where
-      by : (b : Bool) → All (λ (f : WrittenFile). form_of f.path ≡ cond b 0x08 (form_of_paths fs)) fs
-          → (b ≡ false → d.has_source ≡ true → All (λ (f : WrittenFile). form_of f.source ≡ form_of_sources fs) fs)
-          → Refuses P (cond b (join_bytes (all_bytes (file_bytes_to_4 is_big e) fs) (Ok (0 ∷ [])))
-          (described_files is_big e d fs))
-      by true one two = join_refuses P _ _ (all_refuses P (file_bytes_to_4 is_big e) fs
-          (All-weaker (λ (f : WrittenFile). form_of f.path ≡ 0x08)
-          (λ (f : WrittenFile). Refuses P (file_bytes_to_4 is_big e f))
-          (λ f is. join_refuses P (text_bytes is_big e 0x08 f.path) (Ok (bytes_after_path f))
-          (text_refuses e 0x08 f.path is) (ok_refuses P (bytes_after_path f))) fs one)) (ok_refuses P (0 ∷ []))
+      by : (b : Bool) → All (λ (f : WrittenFile). form_of f.path ≡ cond b 0x08 (path_form t)) t.files
+          → (b ≡ false → t.details.has_source ≡ true
+          → All (λ (f : WrittenFile). form_of f.source ≡ source_form t) t.files)
+          → All P (cond b (flat_map (file_refusals e false 0x08 0x08) t.files)
+          (flat_map (file_refusals e t.details.has_source (path_form t) (source_form t)) t.files))
+      by true one two = All-flat_map P (file_refusals e false 0x08 0x08) t.files
+          (λ k f h. file_large e false 0x08 0x08 (get_or t.files k f) (one k f h) (λ has. absurd (cc)))
       by false one two =
-          join_refuses P (Ok (spelled_formats (file_formats d (form_of_paths fs) (form_of_sources fs)))) _
-          (ok_refuses P (spelled_formats (file_formats d (form_of_paths fs) (form_of_sources fs))))
-          (join_refuses P (Ok (unsigned_string (length fs))) _ (ok_refuses P (unsigned_string (length fs)))
-          (all_refuses P (file_bytes_of_5 is_big e d (form_of_paths fs) (form_of_sources fs)) fs
-          (λ k f h. file_refuses e d (form_of_paths fs) (form_of_sources fs) (get_or fs k f) (one k f h)
-          (λ has. two refl has k f h))))
+          All-flat_map P (file_refusals e t.details.has_source (path_form t) (source_form t)) t.files
+          (λ k f h. file_large e t.details.has_source (path_form t) (source_form t) (get_or t.files k f) (one k f h)
+          (λ has. two refl has k f h))
 
   -- ---- headers and units
 
   pub header_refuses : (rules : LineRules) (t : Tables)
-      → All (λ w. form_of w ≡ cond (nat_le rules.encoding.version 4) 0x08 (form_in t.directories)) t.directories
-      → All (λ (f : WrittenFile). form_of f.path ≡ cond (nat_le rules.encoding.version 4) 0x08
-      (form_of_paths t.files)) t.files
+      → All (λ w. form_of w ≡ form_in_version rules.encoding.version (form_in t.directories)) t.directories
+      → All (λ (f : WrittenFile). form_of f.path ≡ form_in_version rules.encoding.version (path_form t)) t.files
       → (nat_le rules.encoding.version 4 ≡ false → t.details.has_source ≡ true
-      → All (λ (f : WrittenFile). form_of f.source ≡ form_of_sources t.files) t.files)
+      → All (λ (f : WrittenFile). form_of f.source ≡ source_form t) t.files)
       → Refuses P (header_bytes is_big rules t)
+  unfolding header_bytes
   header_refuses rules t directories paths sources =
-      join_refuses P (Ok (spelled_parameters rules ++ spelled_opcodes)) (tables_bytes is_big rules.encoding t)
-      (ok_refuses P (spelled_parameters rules ++ spelled_opcodes))
-      (join_refuses P (directories_bytes is_big rules.encoding t.directories)
-      (files_bytes is_big rules.encoding t.details t.files)
-      (directories_refuse rules.encoding t.directories directories)
-      (files_refuse rules.encoding t.details t.files paths sources))
+      bytes_refuse P (header_refusals rules.encoding t) (spelled_header rules is_big t)
+      (All-append P (directories_refusals rules.encoding t.directories) (files_refusals rules.encoding t)
+      (directories_large rules.encoding t.directories directories)
+      (files_large rules.encoding t paths sources))
 
   length_refuses : (format : Format) (n : ℕ) → Refuses P (length_bytes is_big format n)
   length_refuses Dwarf32 n = by (nat_lt n 0xfffffff0)
@@ -327,12 +306,12 @@ module _ (s l : List (List ℕ)) (rules : LineRules) (k : ProgramFiles) (d : Fil
       can.last_version can.operations
       (header_refuses P (λ e h. inl h) is_big rules t
       (directories_in_form s' l' (listed_directories k.version k.directories) can.directories)
-      (All-view (λ w. form_of w ≡ cond (nat_le rules.encoding.version 4) 0x08 (form_of_paths t.files))
+      (All-view (λ w. form_of w ≡ cond (nat_le rules.encoding.version 4) 0x08 (path_form t))
       (λ (f : WrittenFile). f.path) t.files paths)
       (λ later has. sources_fit (ap (λ v. nat_le v 4) same ∙ later) has))
     where
       sources_fit : nat_le k.version 4 ≡ false → d.has_source ≡ true
-          → All (λ (f : WrittenFile). form_of f.source ≡ form_of_sources (header_tables s l k d).files)
+          → All (λ (f : WrittenFile). form_of f.source ≡ source_form (header_tables s l k d))
           (header_tables s l k d).files
       sources_fit new has =
           let t = header_tables s l k d in
@@ -346,7 +325,7 @@ module _ (s l : List (List ℕ)) (rules : LineRules) (k : ProgramFiles) (d : Fil
           All-map (λ w. form_of w ≡ text_form (unwrap_or (first_source k.infos) (in_header [])))
           (λ (i : Info). source_text s' l' true empty i.source) k.infos
           (source_in_form s' l' present_is new) in
-          All-view (λ w. form_of w ≡ form_of_sources t.files) (λ (f : WrittenFile). f.source) t.files
+          All-view (λ w. form_of w ≡ source_form t) (λ (f : WrittenFile). f.source) t.files
           (subst AsFirst (sym (sources_written s' l' (records_source k.version d) empty k.files k.infos counted
           ∙ ap (λ b. map (λ (i : Info). source_text s' l' b empty i.source) k.infos) present_is))
           (written_as_first (text_form (unwrap_or (first_source k.infos) (in_header [])))

@@ -1,5 +1,4 @@
 mod SpelledPieces
-mod FileBytes
 mod TableBytes
 mod UnitBytesAgain
 mod RowAnswers

@@ -153,12 +153,12 @@ module _ (s l : List (List ℕ)) (k : ProgramFiles) (d : FileDetails) (empty : T
     again = text_again s l free line_free str line_str in_str in_line_str
 
     pub directories_read : (e : Encoding) (is_big : Bool) (first : ℕ)
-        → map (text_read str line_str) (directory_values e is_big first (tables_with s l k d empty))
+        → map (text_read str line_str) (directory_values e is_big first (tables_with s l k d empty).directories)
         ≡ map (bytes_of_text s l) (listed_directories k.version k.directories)
     directories_read e is_big first =
         values_read (header_text s l) (spelled_text is_big e.format) (value_of_text is_big) (text_read str line_str)
         (bytes_of_text s l) (listed_directories k.version k.directories)
-        (first + entries_offset e (formats_of_directories (tables_with s l k d empty))
+        (first + entries_offset e (formats_of_directories (tables_with s l k d empty).directories)
         (length (tables_with s l k d empty).directories))
         (All-weaker (IsKnown s l) (λ t. (n : ℕ) → text_read str line_str (value_of_text is_big n (header_text s l t))
         ≡ bytes_of_text s l t) (λ t h n. again is_big n t h) (listed_directories k.version k.directories)

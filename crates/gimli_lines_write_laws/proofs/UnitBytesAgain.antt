@@ -1,5 +1,5 @@
 -- The bytes of a unit are those that are read again.
-use Rattle.std.proofs.Common.{◌≡◌, ℕ, ◌<◌, ◌≤◌, ◌||◌, ◌&&◌, nat_lt, Bool, true, false, cond, List, ◌++◌, length, Result, Ok, Err, refl, sym, ap, subst, ◌∙◌, arith, append_assoc}
+use Rattle.std.proofs.Common.{◌≡◌, ℕ, ◌<◌, ◌≤◌, ◌||◌, ◌&&◌, nat_lt, Bool, true, false, cond, List, [], ◌∷◌, ◌++◌, length, Result, Ok, Err, refl, sym, ap, subst, ◌∙◌, arith, append_assoc}
 use Rattle.std.specs.Prelude.{if◌then◌else◌}
 use Rattle.std.proofs.lemmas.Bool.{ltb-true, ltb-false}
 use Rattle.gimli_lines_write_unit.specs.Format.{Format}
@@ -15,7 +15,7 @@ use Rattle.gimli_lines_write_unit.specs.LineEntry.{LineEntry}
 use Rattle.gimli_lines_write_unit.specs.BuiltRows.{first_row}
 use Rattle.gimli_lines_write_unit.specs.EntryBytes.{join_bytes, entries_bytes}
 use Rattle.gimli_lines_write_unit.specs.HeaderSpelling.{Tables, spelled_sizes, spelled_header, spelled_body, spelled_unit}
-use Rattle.gimli_lines_write_unit.specs.HeaderBytes.{header_bytes}
+use Rattle.gimli_lines_write_unit.specs.HeaderBytes.{bytes_or_refusal, header_refusals, header_bytes}
 use Rattle.gimli_lines_write_unit.specs.UnitBytes.{body_with_header, body_bytes, with_length, unit_with_length, unit_bytes}
 use Rattle.gimli_lines_write_laws.proofs.SpelledPieces.{both_parts, same_ok, sized_is}
 
@@ -34,20 +34,22 @@ length_is is_big Dwarf64 n bytes e = sized_is is_big Dwarf64 n bytes e
 pub record UnitIs (address_of : Address → Result ℕ Error) (is_big : Bool) (rules : LineRules) (t : Tables)
     (entries : List LineEntry) (bytes : List ℕ) : Type 0 where
   pub program : List ℕ
-  pub header : header_bytes is_big rules t ≡ Ok (spelled_header rules is_big t)
+  pub none_refused : header_refusals rules.encoding t ≡ []
   pub entries_are : entries_bytes address_of is_big rules (first_row rules) entries ≡ Ok program
   pub bytes_are : bytes ≡ spelled_unit rules is_big t program
   pub length_fits : length (spelled_body rules is_big t program) < length_limit rules.encoding.format
 
 module _ (address_of : Address → Result ℕ Error) (is_big : Bool) (rules : LineRules) (t : Tables)
-    (entries : List LineEntry) (spelled_is : (header : List ℕ) → header_bytes is_big rules t ≡ Ok header
-    → header ≡ spelled_header rules is_big t) where
+    (entries : List LineEntry) where
+  -- the fields of the header
+  abbrev header : List ℕ
+  header = spelled_header rules is_big t
+
   -- what follows the first length
-  body_is : (header body : List ℕ) → header_bytes is_big rules t ≡ Ok header
-      → body_with_header address_of is_big rules header entries ≡ Ok body
+  body_is : (body : List ℕ) → body_with_header address_of is_big rules header entries ≡ Ok body
       → (program : List ℕ) × (entries_bytes address_of is_big rules (first_row rules) entries ≡ Ok program)
       × (body ≡ spelled_body rules is_big t program)
-  body_is header body made h =
+  body_is body h =
       let e = rules.encoding in
       let rows = entries_bytes address_of is_big rules (first_row rules) entries in
       let word = bytes_in_width is_big (word_size e.format) (length header) in
@@ -55,23 +57,22 @@ module _ (address_of : Address → Result ℕ Error) (is_big : Bool) (rules : Li
       let two = both_parts word (join_bytes (Ok header) rows) one.1 one.3 in
       let three = both_parts (Ok header) rows two.1 two.3 in
       let size = sized_is is_big e.format (length header) two.0 two.2 in
-      let same = spelled_is header made in
       let program = three.1 in (
         program,
         three.3,
         sym one.4 ∙ ap (λ l. l ++ one.1) (sym (same_ok (spelled_sizes e is_big) one.0 one.2))
             ∙ ap (λ l. spelled_sizes e is_big ++ l)
-            (sym two.4 ∙ ap (λ l. l ++ two.1)
-            (size.1 ∙ ap (λ l. number_bytes is_big (word_size e.format) (length l)) same)
-            ∙ ap (λ l. number_bytes is_big (word_size e.format) (length (spelled_header rules is_big t)) ++ l)
-            (sym three.4 ∙ ap (λ l. l ++ program) (sym (same_ok header three.0 three.2) ∙ same))),
+            (sym two.4 ∙ ap (λ l. l ++ two.1) size.1
+            ∙ ap (λ l. number_bytes is_big (word_size e.format) (length header) ++ l)
+            (sym three.4 ∙ ap (λ l. l ++ program) (sym (same_ok header three.0 three.2)))),
       )
 
-  counted_is : (c : Result (List ℕ) Error) → header_bytes is_big rules t ≡ c → (bytes : List ℕ)
-      → with_length is_big rules.encoding.format (body_bytes address_of is_big rules c entries) ≡ Ok bytes
+  counted_is : (rs : List Error) → header_refusals rules.encoding t ≡ rs → (bytes : List ℕ)
+      → with_length is_big rules.encoding.format
+      (body_bytes address_of is_big rules (bytes_or_refusal rs header) entries) ≡ Ok bytes
       → UnitIs address_of is_big rules t entries bytes
-  counted_is (Err f) made bytes h = absurd (cc)
-  counted_is (Ok header) made bytes h = by (body_with_header address_of is_big rules header entries) refl h
+  counted_is (f ∷ rs) made bytes h = absurd (cc)
+  counted_is [] made bytes h = by (body_with_header address_of is_big rules header entries) refl h
     where
       by : (r : Result (List ℕ) Error) → body_with_header address_of is_big rules header entries ≡ r
           → with_length is_big rules.encoding.format r ≡ Ok bytes → UnitIs address_of is_big rules t entries bytes
@@ -79,13 +80,13 @@ module _ (address_of : Address → Result ℕ Error) (is_big : Bool) (rules : Li
       by (Ok body) is k =
           let format = rules.encoding.format in
           let number = length_bytes is_big format (length body) in
-          let b = body_is header body made is in
+          let b = body_is body is in
           let one = both_parts (Ok (escape format)) (join_bytes number (Ok body)) bytes k in
           let two = both_parts number (Ok body) one.1 one.3 in
           let n = length_is is_big format (length body) two.0 two.2 in
           record {
             program = b.0;
-            header = made ∙ ap Ok (spelled_is header made);
+            none_refused = made;
             entries_are = b.1;
             bytes_are = sym one.4 ∙ ap (λ l. l ++ one.1) (sym (same_ok (escape format) one.0 one.2))
                 ∙ ap (λ l. escape format ++ l) (sym two.4 ∙ ap (λ l. l ++ two.1) n.1
@@ -103,6 +104,7 @@ module _ (address_of : Address → Result ℕ Error) (is_big : Bool) (rules : Li
 
   pub unit_is : (bytes : List ℕ) → unit_bytes address_of is_big rules t entries ≡ Ok bytes → VersionIs
       × UnitIs address_of is_big rules t entries bytes
+  unfolding header_bytes
   unit_is bytes h = by (nat_lt rules.encoding.version 2) (nat_lt 5 rules.encoding.version)
       (nat_lt rules.encoding.version 4) (nat_lt 1 rules.line_encoding.maximum_operations_per_instruction) refl refl refl
       refl h
@@ -121,7 +123,7 @@ module _ (address_of : Address → Result ℕ Error) (is_big : Bool) (rules : Li
           ltb-false 5 rules.encoding.version q,
           λ low. ltb-false 1 rules.line_encoding.maximum_operations_per_instruction s,
         ),
-        counted_is (header_bytes is_big rules t) refl bytes k,
+        counted_is (header_refusals rules.encoding t) refl bytes k,
       )
       by false false false d p q r s k = (
         (
@@ -129,5 +131,5 @@ module _ (address_of : Address → Result ℕ Error) (is_big : Bool) (rules : Li
           ltb-false 5 rules.encoding.version q,
           λ low. absurd (let high = ltb-false rules.encoding.version 4 r in omega arith),
         ),
-        counted_is (header_bytes is_big rules t) refl bytes k,
+        counted_is (header_refusals rules.encoding t) refl bytes k,
       )

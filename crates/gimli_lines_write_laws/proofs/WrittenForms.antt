@@ -7,15 +7,15 @@ use Rattle.gimli_lines_write_unit.specs.LineEntry.{LineEntry}
 use Rattle.gimli_lines_write_unit.specs.WriteError.{Error}
 use Rattle.gimli_lines_write_unit.specs.Address.{Address}
 use Rattle.gimli_lines_write_unit.specs.FileTables.{Text, in_header, of_strings, of_line_strings, File, Info, ProgramFiles}
-use Rattle.gimli_lines_write_unit.specs.HeaderTexts.{form_of, form_in}
+use Rattle.gimli_lines_write_unit.specs.HeaderTexts.{form_of, form_in, form_in_version}
 use Rattle.gimli_lines_write_unit.specs.EntryFields.{WrittenFile}
-use Rattle.gimli_lines_write_unit.specs.HeaderSpelling.{path_form, source_form, spelled_header}
+use Rattle.gimli_lines_write_unit.specs.HeaderSpelling.{path_form, source_form}
 use Rattle.gimli_lines_write_unit.specs.declared.details.FileDetails.{FileDetails}
 use Rattle.gimli_lines_write_unit.specs.HeaderContents.{header_text, listed_directories, records_source, source_text, header_files, header_tables, empty_form_of, empty_text, strings_after, line_strings_after}
 use Rattle.gimli_lines_write_unit.specs.UnitBytes.{unit_bytes}
 use Rattle.gimli_lines_write_unit.proofs.KnownTexts.{All-view}
 use Rattle.gimli_lines_write_laws.specs.ExpressiblePrograms.{text_form, list_form, HasOneForm, sources_of, paths_of, IsExpressible}
-use Rattle.gimli_lines_write_laws.proofs.TableBytes.{DirectoryIs, FileIs, form_at, header_is}
+use Rattle.gimli_lines_write_laws.proofs.TableBytes.{TextIs, FileIs, header_is}
 use Rattle.gimli_lines_write_laws.proofs.UnitBytesAgain.{unit_is}
 
 -- ---- forms don't depend on the tables
@@ -130,9 +130,8 @@ module _ (s l : List (List ℕ)) (rules : LineRules) (k : ProgramFiles) (d : Fil
       let l' = line_strings_after (empty_form_of k d) l in
       let empty = empty_text s l (empty_form_of k d) in
       let present = records_source k.version d in
-      let header = header_is is_big rules t in
-      let parts = unit_is address_of is_big rules t entries (λ h made. (header h made).2) bytes e in
-      let tables = header (spelled_header rules is_big t) parts.1.header in
+      let parts = unit_is address_of is_big rules t entries bytes e in
+      let tables = header_is rules.encoding t parts.1.none_refused in
       let Written : ℕ → List Text → Type 0 = λ v ts.
       All (λ w. form_of w ≡ cond (nat_le v 4) 0x08 (form_in ts)) ts in
       let paths : Written k.version (map (λ (f : WrittenFile). f.path) t.files) =
@@ -144,7 +143,7 @@ module _ (s l : List (List ℕ)) (rules : LineRules) (k : ProgramFiles) (d : Fil
       (λ f h. h.0.0) t.files tables.1)) in
       let directories : Written k.version t.directories =
       subst (λ v. Written v t.directories) (sym same)
-      (All-weaker (DirectoryIs rules.encoding (form_at rules.encoding (form_in t.directories)))
+      (All-weaker (TextIs rules.encoding (form_in_version rules.encoding.version (form_in t.directories)))
       (λ w. form_of w ≡ cond (nat_le rules.encoding.version 4) 0x08 (form_in t.directories)) (λ w h. h.0) t.directories
       tables.0) in
       record {

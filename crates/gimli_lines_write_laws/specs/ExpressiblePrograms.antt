@@ -1,10 +1,9 @@
 -- Programs that a header can express (DWARF 5, 6.2.4 and 6.2.4.1).
-use Rattle.std.specs.Prelude.{◌≡◌, ◌⊎◌, ℕ, ◌≤◌, nat_le, true, List, [], All, map, filter_map, if◌then◌else◌}
-use Rattle.gimli_lines_write_unit.specs.TheConstants.{DW_FORM_string}
+use Rattle.std.specs.Prelude.{◌≡◌, ◌⊎◌, ℕ, ◌≤◌, true, List, [], All, map, filter_map}
 use Rattle.gimli_lines_write_unit.specs.LineRules.{LineRules}
 use Rattle.gimli_lines_write_unit.specs.WriteError.{Error}
 use Rattle.gimli_lines_write_unit.specs.WriteError.TheVariants.{ValueTooLarge, InitialLengthOverflow}
-use Rattle.gimli_lines_write_unit.specs.HeaderTexts.{form_of, form_in}
+use Rattle.gimli_lines_write_unit.specs.HeaderTexts.{form_of, form_in, form_in_version}
 use Rattle.gimli_lines_write_unit.specs.FileTables.{Text, File, Info, ProgramFiles}
 use Rattle.gimli_lines_write_unit.specs.declared.details.FileDetails.{FileDetails}
 use Rattle.gimli_lines_write_unit.specs.HeaderContents.{header_text, listed_directories, records_source}
@@ -13,11 +12,9 @@ use Rattle.gimli_lines_write_unit.specs.HeaderContents.{header_text, listed_dire
 abbrev pub text_form : Text → ℕ
 text_form t = form_of (header_text [] [] t)
 
--- the form of the texts of a list: up to version 4 each is in the header, in version 5 they are as
--- the first
+-- the form of the texts of a list in a version
 abbrev pub list_form : ℕ → List Text → ℕ
-list_form version ts =
-    if nat_le version 4 then DW_FORM_string.0 else form_in (map (header_text [] []) ts)
+list_form version ts = form_in_version version (form_in (map (header_text [] []) ts))
 
 -- the texts of a list have one form
 abbrev pub HasOneForm : ℕ → List Text → Type 0

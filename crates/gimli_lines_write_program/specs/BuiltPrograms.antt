@@ -21,8 +21,7 @@ use Rattle.gimli_lines_write_laws.specs.ProgramReadBack.{InfoFits, SourceHasNoZe
 use Rattle.gimli_lines_write_laws.specs.FileTables.{Text, in_header, File, Info, no_info, ProgramFiles, IsConsistent}
 use Rattle.gimli_lines_write_laws.specs.HeaderSpelling.{Tables}
 
--- a program, and whether it stands for none; in version 5 the header records the details of its
--- files
+-- a program, and whether it is none; in version 5 the header records the details of its files
 pub record Program : Type 0 where
   pub is_none : Bool
   pub tables : ProgramFiles

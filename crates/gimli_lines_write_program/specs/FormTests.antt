@@ -1,19 +1,18 @@
 -- Tests of programs that a header can express (DWARF 5, 6.2.4).
-use Rattle.std.specs.Prelude.{ℕ, nat_le, ◌==◌, ◌&&◌, ◌||◌, not, Bool, true, List, [], Option, Some, None, unwrap_or, if◌then◌else◌}
+use Rattle.std.specs.Prelude.{ℕ, nat_le, ◌==◌, ◌&&◌, ◌||◌, not, Bool, true, List, [], Option, Some, None, unwrap_or}
 use Rattle.std.specs.List.{list_all}
-use Rattle.gimli_lines_write_laws.specs.TheConstants.{DW_FORM_string}
 use Rattle.gimli_lines_write_laws.specs.LineRules.{LineRules}
 use Rattle.gimli_lines_write_laws.specs.FileTables.{Text, in_header, File, Info, ProgramFiles}
 use Rattle.gimli_lines_write_laws.specs.FileDetails.{FileDetails}
+use Rattle.gimli_lines_write_laws.specs.HeaderTexts.{form_in_version}
 use Rattle.gimli_lines_write_laws.specs.HeaderContents.{listed_directories, first_source, records_source}
 use Rattle.gimli_lines_write_laws.specs.ExpressiblePrograms.{text_form, list_form, paths_of}
 use Rattle.gimli_lines_write_program.specs.TextTests.{has_texts}
 use Rattle.gimli_lines_write_program.specs.BuiltPrograms.{Program}
 
--- the form of a list's texts, by the first of them
+-- the form of a list's texts in a version, by the first of them
 abbrev pub needed_form : ℕ → Option Text → ℕ
-needed_form version first =
-    if nat_le version 4 then DW_FORM_string.0 else text_form (unwrap_or first (in_header []))
+needed_form version first = form_in_version version (text_form (unwrap_or first (in_header [])))
 
 -- texts have a form
 abbrev pub have_form : ℕ → List Text → Bool

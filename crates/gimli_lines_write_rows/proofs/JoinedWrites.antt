@@ -56,11 +56,11 @@ pub record EntriesLeft (address_of : Address → Result ℕ Error) (rules : Line
   pub left : follows rules previous rest ≡ true
   pub low : previous.line < 2 ^ 63
 
-pub joined-none : (r : Result (List ℕ) Error) → r ≡ join_bytes (Ok []) r
+joined-none : (r : Result (List ℕ) Error) → r ≡ join_bytes (Ok []) r
 joined-none (Ok b) = refl
 joined-none (Err e) = refl
 
-pub joined-assoc : (a b : List ℕ) (r : Result (List ℕ) Error) → join_bytes (Ok a) (join_bytes (Ok b) r)
+joined-assoc : (a b : List ℕ) (r : Result (List ℕ) Error) → join_bytes (Ok a) (join_bytes (Ok b) r)
     ≡ join_bytes (Ok (a ++ b)) r
 joined-assoc a b (Ok c) = ap Ok (sym (append_assoc a b c))
 joined-assoc a b (Err e) = refl

@@ -135,7 +135,7 @@ module _ (w : LineRules) (can_build : IsBuildable w) (address : ℕ) (previous :
     size = size;
   }
 
--- the first row of a sequence stands for the registers at its start
+-- the first row of a sequence gives the registers at its start
 pub start_is : (w : LineRules) → registers_before w 0 (first_row w) ≡ start w
 start_is w = by (nat_le w.encoding.version 4)
   where

@@ -89,7 +89,7 @@ rows_of rules entries = rows_from rules 0 (first_row rules) entries
 abbrev pub FitsSize : LineRules → ℕ → Type 0
 FitsSize rules address = address < 2 ^ (8 * rules.encoding.address_size)
 
--- Addresses that are set are known, stand for some address and don't go back in their sequence;
+-- Addresses that are set are known, aren't tombstones and don't go back in their sequence;
 -- those of rows and ends fit the address size.
 abbrev pub IsReadable : LineRules → ℕ → LineRow → List LineEntry → Type 0
 IsReadable rules address previous [] = Unit {0}

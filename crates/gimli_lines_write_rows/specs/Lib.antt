@@ -16,7 +16,6 @@ pub use Rattle.gimli_lines_write_bytes.specs.SectionId
 pub use Rattle.gimli_lines_write_bytes.specs.TheConstants
 pub use Rattle.gimli_lines_write_bytes.specs.Error
 pub use Rattle.gimli_lines_write_bytes.specs.ByteOrders
-pub use Rattle.gimli_lines_write_bytes.specs.RunTimeEndian
 pub use Rattle.gimli_lines_machine.specs.Addresses
 pub use Rattle.gimli_lines_machine.specs.SectionReads
 pub use Rattle.gimli_lines_machine.specs.Range

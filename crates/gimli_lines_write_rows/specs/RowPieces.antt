@@ -26,7 +26,7 @@ to_instruction (SetIsa n) = set_isa n
 to_instruction EndSequence = end_sequence
 to_instruction (SetDiscriminator n) = set_discriminator n
 
--- Parameters with which any row can be written: a special opcode stands for no line and no
+-- Parameters with which any row can be written: one special opcode advances by no line and no
 -- operation, and instructions have bytes and operations. The special opcodes begin at 13.
 pub record IsBuildable (rules : LineRules) : Type 0 where
   pub has_address_size : IsTrue (is_address_size rules.encoding.address_size)
@@ -70,15 +70,15 @@ opcode_lines e lines = if is_special e lines then lines else pos 0
 abbrev pub line_step : LineEncoding → ℤ → ℕ
 line_step e lines = unsigned_abs (opcode_lines e lines -ℤ e.line_base)
 
--- the operations that the greatest special opcode stands for
+-- the operations by which the greatest special opcode advances
 abbrev pub most_operations : LineEncoding → ℕ
 most_operations e = 242 / e.line_range
 
--- the most that one stands for beside a step of lines
+-- the most operations by which one with this step of lines advances
 abbrev pub room : LineEncoding → ℕ → ℕ
 room e step = (242 - step) / e.line_range
 
--- in two opcodes
+-- `const_add_pc`, which advances as opcode 255 does, and one such opcode advance that far
 abbrev pub is_const : LineEncoding → ℕ → ℕ → Bool
 is_const e step operations =
     nat_le (most_operations e) operations && nat_le (operations - most_operations e) (room e step)
@@ -89,7 +89,7 @@ advance e step operations =
     if nat_le operations (room e step) then []
     else (if is_const e step operations then ConstAddPc ∷ [] else AdvancePc operations ∷ [])
 
--- the operations that the special opcode stands for
+-- the operations by which the special opcode advances
 abbrev pub opcode_operations : LineEncoding → ℕ → ℕ → ℕ
 opcode_operations e step operations =
     if nat_le operations (room e step) then operations

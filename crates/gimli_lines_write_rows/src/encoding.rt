@@ -72,7 +72,7 @@ fn step_of(rules: LineRules, lines: i64) -> u64
     (left - i64::from(encoding.line_base)).unsigned_abs()
 }
 
-// The most operations that a special opcode stands for beside a step of lines.
+// The most operations by which a special opcode with this step of lines advances.
 fn room_of(rules: LineRules, step: u64) -> u64
     requires buildable { IsBuildable rules }
     requires low { step < rules.line_encoding.line_range }

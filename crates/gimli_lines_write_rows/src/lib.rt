@@ -1,4 +1,4 @@
-//! Rows of a line number program as they are written: the instructions that stand for them, and the
+//! Rows of a line number program as they are written: the instructions that give them, and the
 //! instructions' bytes (DWARF 5, 6.2.5).
 #![tactic(auto)]
 

@@ -105,38 +105,41 @@ module _ (limit : ℕ) (rules : LineRules) (is_big : Bool) (t : Tables) (program
       (spelled_header rules is_big t ++ program) n
       (below_back (spelled_sizes rules.encoding is_big) _ n h))
 
-  tables_below : length (spelled_directories rules.encoding is_big t ++ spelled_files rules.encoding is_big t) < 2 ^ 64
+  tables_below : length (spelled_directories rules.encoding is_big t.directories
+      ++ spelled_files rules.encoding is_big t) < 2 ^ 64
   tables_below = below_back spelled_opcodes _ (2 ^ 64)
       (below_back (spelled_parameters rules) _ (2 ^ 64) (header_below (2 ^ 64) body_fits.0))
 
-  directories_again : (first : ℕ) → Again is_big first (directories limit rules.encoding)
-      (formats_in rules.encoding (formats_of_directories t), directory_values rules.encoding is_big first t)
-      (spelled_directories rules.encoding is_big t)
+  directories_again : (first : ℕ)
+      → Again is_big first (directories limit rules.encoding) (
+        formats_in rules.encoding (formats_of_directories t.directories),
+        directory_values rules.encoding is_big first t.directories,
+      ) (spelled_directories rules.encoding is_big t.directories)
   unfolding directories
   directories_again first = by_version (nat_le rules.encoding.version 4) refl
     where
       by_version : (b : Bool) → nat_le rules.encoding.version 4 ≡ b
           → Again is_big first (directories limit rules.encoding) (
-            formats_in rules.encoding (formats_of_directories t),
-            directory_values rules.encoding is_big first t,
-          ) (spelled_directories rules.encoding is_big t)
+            formats_in rules.encoding (formats_of_directories t.directories),
+            directory_values rules.encoding is_big first t.directories,
+          ) (spelled_directories rules.encoding is_big t.directories)
       by_version true earlier =
           let stand = can.to_4 (leb-true rules.encoding.version 4 earlier) in
           let same : first ≡ first + 0 = omega arith in
           rw earlier (again_then (λ texts. give ([], texts))
           (subst (λ (n : ℕ). Again is_big first directory_texts
           (values_at (spelled_text is_big rules.encoding.format) (value_of_text is_big) n t.directories)
-          (spelled_directories_to_4 is_big rules.encoding.format t)) same
+          (spelled_directories_to_4 is_big rules.encoding.format t.directories)) same
           (directories_again_4 limit rules.encoding.format is_big first t.directories can.directories
           stand.directories)) (λ v. refl))
       by_version false later =
           let stand = can.in_5 (leb-false rules.encoding.version 4 later) in
-          let whole : length (spelled_directories_of_5 is_big rules.encoding.format t) < 2 ^ 64 =
-          rw later at (below_front (spelled_directories rules.encoding is_big t)
+          let whole : length (spelled_directories_of_5 is_big rules.encoding.format t.directories) < 2 ^ 64 =
+          rw later at (below_front (spelled_directories rules.encoding is_big t.directories)
           (spelled_files rules.encoding is_big t) (2 ^ 64) tables_below) in
           let entries = below_back (unsigned_string (length t.directories))
           (flat_map (spelled_text is_big rules.encoding.format) t.directories) (2 ^ 64)
-          (below_back (spelled_formats (formats_of_directories t)) _ (2 ^ 64) whole) in
+          (below_back (spelled_formats (formats_of_directories t.directories)) _ (2 ^ 64) whole) in
           let few = items_take_bytes (spelled_text is_big rules.encoding.format)
           (text_some is_big rules.encoding.format) t.directories in
           rw later (directories_again_5 limit rules.encoding is_big first t.directories can.directories
@@ -160,7 +163,7 @@ module _ (limit : ℕ) (rules : LineRules) (is_big : Bool) (t : Tables) (program
       by_version false later =
           let stand = can.in_5 (leb-false rules.encoding.version 4 later) in
           let whole : length (spelled_files_of_5 is_big rules.encoding.format t) < 2 ^ 64 =
-          rw later at (below_back (spelled_directories rules.encoding is_big t)
+          rw later at (below_back (spelled_directories rules.encoding is_big t.directories)
           (spelled_files rules.encoding is_big t) (2 ^ 64) tables_below) in
           let entries = below_back (unsigned_string (length t.files))
           (flat_map (spelled_file is_big rules.encoding.format t.details) t.files) (2 ^ 64)
@@ -184,8 +187,8 @@ module _ (limit : ℕ) (rules : LineRules) (is_big : Bool) (t : Tables) (program
     line_encoding = rules.line_encoding;
     opcode_base = 13;
     standard_opcode_lengths = bytes_at is_big (first + length (spelled_parameters rules) + 1) operand_counts;
-    directory_formats = formats_in rules.encoding (formats_of_directories t);
-    directories = directory_values rules.encoding is_big (directories_at rules first) t;
+    directory_formats = formats_in rules.encoding (formats_of_directories t.directories);
+    directories = directory_values rules.encoding is_big (directories_at rules first) t.directories;
     file_formats = formats_in rules.encoding (formats_of_files t);
     files = facts_of_files rules.encoding is_big (files_at rules is_big first t) t;
     program = b.program;

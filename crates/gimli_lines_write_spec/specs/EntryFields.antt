@@ -9,6 +9,7 @@ use Rattle.gimli_lines_write_rows.specs.RowPieces.{when}
 use Rattle.gimli_lines_header.specs.AttributeValues.{RawValue, unsigned_data, data_16}
 use Rattle.gimli_lines_header.specs.declared.formats.FileEntryFormat.{FileEntryFormat}
 use Rattle.gimli_lines_header.specs.LineFiles.{FileFacts, no_md5, path_content, directory_content, timestamp_content, size_content, md5_content, source_content}
+pub use Rattle.gimli_lines_header.specs.UsualFormats.{field_format}
 use Rattle.gimli_lines_write_spec.specs.HeaderTexts.{Text, form_of, spelled_text, value_of_text, IsReadableText}
 
 -- a file: its path, the number of its directory, when it was modified, its size in bytes, its
@@ -86,11 +87,6 @@ abbrev pub spelled_file : Bool → Format → Details → WrittenFile → List �
 spelled_file is_big format d f = spelled_fields (file_fields is_big format d f)
 
 -- ---- what comes before the entries
-
--- a field of a content in a form
-abbrev pub field_format : ℕ → ℕ → FileEntryFormat
-field_format content form =
-    record { content_type = record { 0 = content }; form = record { 0 = form } }
 
 -- a directory is a path
 abbrev pub directory_formats : ℕ → List FileEntryFormat

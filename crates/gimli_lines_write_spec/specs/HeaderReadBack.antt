@@ -20,8 +20,8 @@ pub record FitsVersion5 (t : Tables) : Type 0 where
   pub paths : All (λ (f : WrittenFile). form_of f.path ≡ path_form t) t.files
   pub sources : All (λ (f : WrittenFile). form_of f.source ≡ source_form t) t.files
 
--- A unit that can be written: parameters that a header can express, tables whose entries can stand
--- there, and a length that the format can express.
+-- A unit that can be written: parameters and tables that a header can express, and a length that
+-- the format can express.
 pub record CanWrite (limit : ℕ) (rules : LineRules) (is_big : Bool) (t : Tables)
     (program : List ℕ) : Type 0 where
   pub not_before_2 : 2 ≤ rules.encoding.version

@@ -32,9 +32,9 @@ spelled_file_to_4 is_big format f = spelled_text is_big format f.path
     ++ (unsigned_string f.directory ++ (unsigned_string f.timestamp ++ unsigned_string f.size))
 
 -- the directories, and the empty text that ends them
-abbrev pub spelled_directories_to_4 : Bool → Format → Tables → List ℕ
-spelled_directories_to_4 is_big format t =
-    flat_map (spelled_text is_big format) t.directories ++ 0 ∷ []
+abbrev pub spelled_directories_to_4 : Bool → Format → List Text → List ℕ
+spelled_directories_to_4 is_big format directories =
+    flat_map (spelled_text is_big format) directories ++ 0 ∷ []
 
 -- the files, and the empty path that ends them
 abbrev pub spelled_files_to_4 : Bool → Format → Tables → List ℕ
@@ -42,9 +42,9 @@ spelled_files_to_4 is_big format t = flat_map (spelled_file_to_4 is_big format) 
 
 -- ---- tables in version 5: formats, how many entries, and the entries
 
--- the formats of directories and of files: texts of one list have one form
-abbrev pub formats_of_directories : Tables → List FileEntryFormat
-formats_of_directories t = directory_formats (form_in t.directories)
+-- the formats of directories: texts of one list have one form
+abbrev pub formats_of_directories : List Text → List FileEntryFormat
+formats_of_directories directories = directory_formats (form_in directories)
 
 -- the form of the files' paths
 abbrev pub path_form : Tables → ℕ
@@ -59,11 +59,10 @@ abbrev pub formats_of_files : Tables → List FileEntryFormat
 formats_of_files t = file_formats t.details (path_form t) (source_form t)
 
 -- the directories in version 5
-abbrev pub spelled_directories_of_5 : Bool → Format → Tables → List ℕ
-spelled_directories_of_5 is_big format t =
-    spelled_formats (formats_of_directories t)
-    ++ (unsigned_string (length t.directories) ++ flat_map (spelled_text is_big format)
-    t.directories)
+abbrev pub spelled_directories_of_5 : Bool → Format → List Text → List ℕ
+spelled_directories_of_5 is_big format directories =
+    spelled_formats (formats_of_directories directories)
+    ++ (unsigned_string (length directories) ++ flat_map (spelled_text is_big format) directories)
 
 -- the files in version 5
 abbrev pub spelled_files_of_5 : Bool → Format → Tables → List ℕ
@@ -75,10 +74,10 @@ spelled_files_of_5 is_big format t =
 -- ---- in every version
 
 -- the directories
-abbrev pub spelled_directories : Encoding → Bool → Tables → List ℕ
-spelled_directories e is_big t =
-    if nat_le e.version 4 then spelled_directories_to_4 is_big e.format t
-    else spelled_directories_of_5 is_big e.format t
+abbrev pub spelled_directories : Encoding → Bool → List Text → List ℕ
+spelled_directories e is_big directories =
+    if nat_le e.version 4 then spelled_directories_to_4 is_big e.format directories
+    else spelled_directories_of_5 is_big e.format directories
 
 -- the files
 abbrev pub spelled_files : Encoding → Bool → Tables → List ℕ
@@ -106,7 +105,7 @@ spelled_opcodes = 13 ∷ operand_counts
 -- the fields that the second length counts
 abbrev pub spelled_header : LineRules → Bool → Tables → List ℕ
 spelled_header rules is_big t = spelled_parameters rules
-    ++ (spelled_opcodes ++ (spelled_directories rules.encoding is_big t
+    ++ (spelled_opcodes ++ (spelled_directories rules.encoding is_big t.directories
     ++ spelled_files rules.encoding is_big t))
 
 -- the version, and in version 5 the sizes of an address and of a segment selector, which has none
@@ -145,7 +144,8 @@ directories_at rules fields = fields + length (spelled_parameters rules) + lengt
 -- where the files begin
 abbrev pub files_at : LineRules → Bool → ℕ → Tables → ℕ
 files_at rules is_big fields t =
-    directories_at rules fields + length (spelled_directories rules.encoding is_big t)
+    directories_at rules fields
+    + length (spelled_directories rules.encoding is_big t.directories)
 
 -- in version 5 the entries begin after the formats and the number of entries
 abbrev pub entries_offset : Encoding → List FileEntryFormat → ℕ → ℕ
@@ -153,10 +153,10 @@ entries_offset e formats n =
     if nat_le e.version 4 then 0 else length (spelled_formats formats) + length (unsigned_string n)
 
 -- what is read of the directories, whose table begins at an identifier
-abbrev pub directory_values : Encoding → Bool → ℕ → Tables → List RawValue
-directory_values e is_big first t =
+abbrev pub directory_values : Encoding → Bool → ℕ → List Text → List RawValue
+directory_values e is_big first directories =
     values_at (spelled_text is_big e.format) (value_of_text is_big)
-    (first + entries_offset e (formats_of_directories t) (length t.directories)) t.directories
+    (first + entries_offset e (formats_of_directories directories) (length directories)) directories
 
 -- a file up to version 4
 abbrev pub file_facts_to_4 : Bool → ℕ → WrittenFile → FileFacts
@@ -195,8 +195,8 @@ header_value rules is_big offset fields unit t program = record {
     is_big = is_big;
     first = fields + length (spelled_parameters rules) + 1;
   };
-  directory_formats = formats_in rules.encoding (formats_of_directories t);
-  directories = directory_values rules.encoding is_big (directories_at rules fields) t;
+  directory_formats = formats_in rules.encoding (formats_of_directories t.directories);
+  directories = directory_values rules.encoding is_big (directories_at rules fields) t.directories;
   file_formats = formats_in rules.encoding (formats_of_files t);
   files = facts_of_files rules.encoding is_big (files_at rules is_big fields t) t;
   program = record {

@@ -1,5 +1,5 @@
 -- The texts of a line number program's header as they are written (DWARF 5, 6.2.4.1 and 7.5.5).
-use Rattle.std.specs.Prelude.{ℕ, ◌^◌, ◌<◌, ◌≢◌, Bool, List, [], ◌∷◌, ◌++◌, length}
+use Rattle.std.specs.Prelude.{ℕ, ◌^◌, ◌<◌, ◌≢◌, nat_le, Bool, List, [], ◌∷◌, ◌++◌, length, if◌then◌else◌}
 use Rattle.gimli_lines_write_rows.specs.Format.{Format}
 use Rattle.gimli_lines_write_rows.specs.TheConstants.{DW_FORM_string, DW_FORM_strp, DW_FORM_line_strp}
 use Rattle.gimli_lines_write_rows.specs.FormatSizes.{word_size}
@@ -18,6 +18,10 @@ form_of (of_line_strings _) = DW_FORM_line_strp.0
 abbrev pub form_in : List Text → ℕ
 form_in [] = DW_FORM_string.0
 form_in (t ∷ _) = form_of t
+
+-- the form of a list in a version: up to version 4 every text is in the header
+abbrev pub form_in_version : ℕ → ℕ → ℕ
+form_in_version version form = if nat_le version 4 then DW_FORM_string.0 else form
 
 -- its bytes and a zero byte, or its offset in as many bytes as the format gives offsets
 abbrev pub spelled_text : Bool → Format → Text → List ℕ

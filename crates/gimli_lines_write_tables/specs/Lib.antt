@@ -15,7 +15,6 @@ pub use Rattle.gimli_lines_write_rows.specs.SectionId
 pub use Rattle.gimli_lines_write_rows.specs.TheConstants
 pub use Rattle.gimli_lines_write_rows.specs.Error
 pub use Rattle.gimli_lines_write_rows.specs.ByteOrders
-pub use Rattle.gimli_lines_write_rows.specs.RunTimeEndian
 pub use Rattle.gimli_lines_write_rows.specs.SectionReads
 pub use Rattle.gimli_lines_write_rows.specs.Range
 pub use Rattle.gimli_lines_write_rows.specs.Registers

@@ -10,7 +10,6 @@ mod texts;
 
 pub use file::{DirectoryId, FileInfo, FileKey};
 pub use file_table::FileTable;
-pub use gimli_lines_write_rows::program_bytes::write_entries;
 pub use gimli_lines_write_rows::{
     Address, DW_FORM_data16, DW_FORM_line_strp, DW_FORM_string, DW_FORM_strp, DW_FORM_udata,
     DW_LNCT_LLVM_source, DW_LNCT_MD5, DW_LNCT_directory_index, DW_LNCT_path, DW_LNCT_size,

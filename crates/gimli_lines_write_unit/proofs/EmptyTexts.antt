@@ -90,3 +90,6 @@ line_strings_gain None strings new is = inl is
 line_strings_gain (Some (in_header bytes)) strings new is = inl is
 line_strings_gain (Some (of_strings place)) strings new is = inl is
 line_strings_gain (Some (of_line_strings place)) strings new is = inr is
+
+-- either table
+pub ruleset gains = (strings_gain, line_strings_gain)

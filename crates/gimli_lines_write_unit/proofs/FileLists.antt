@@ -1,18 +1,20 @@
 -- The files of two lists, one place after the other.
-use Rattle.std.proofs.Common.{◌≡◌, ℕ, ◌+◌, ◌<◌, ◌≤◌, Bool, true, false, not, ◌&&◌, List, [], ◌∷◌, ◌++◌, drop, map, length, suc, get_or, Ok, refl, sym, ap, subst, ◌∙◌, arith}
-use Rattle.std.specs.Prelude.{nat_le}
+use Rattle.std.proofs.Common.{◌≡◌, ℕ, ◌+◌, ◌<◌, ◌≤◌, Bool, true, false, not, ◌&&◌, List, [], ◌∷◌, ◌++◌, drop, map, length, suc, get_or, refl, sym, ap, subst, ◌∙◌, arith, append_assoc}
+use Rattle.std.specs.Prelude.{nat_le, flat_map, if◌then◌else◌}
 use Rattle.std.proofs.lemmas.Bool.{le-leb, lt-leb}
+use Rattle.std.proofs.lemmas.Grind.{flat_map-append}
 use Rattle.std.proofs.lemmas.List.{append-nil}
-use Rattle.gimli_lines_write_tables.specs.Encoding.{Encoding}
-use Rattle.gimli_lines_write_tables.specs.TheConstants.{DW_FORM_string}
+use Rattle.gimli_lines_write_tables.specs.Format.{Format}
 use Rattle.gimli_lines_write_tables.specs.Spelling.{unsigned_string}
-use Rattle.gimli_lines_write_tables.specs.EntryBytes.{join_bytes}
+use Rattle.gimli_lines_write_tables.specs.RowPieces.{when}
 use Rattle.gimli_lines_write_tables.specs.declared.file.FileInfo.{FileInfo}
 use Rattle.gimli_lines_write_tables.specs.declared.file.FileKey.{FileKey}
 use Rattle.gimli_lines_write_tables.specs.FileTables.{Text, File, Info, file_of, info_of}
-use Rattle.gimli_lines_write_spec.specs.EntryFields.{WrittenFile, Details}
+use Rattle.gimli_lines_write_spec.specs.HeaderTexts.{spelled_text}
+use Rattle.gimli_lines_write_spec.specs.EntryFields.{WrittenFile, WrittenField, Details, spelled_fields, spelled_file}
+use Rattle.gimli_lines_write_spec.specs.HeaderSpelling.{spelled_file_to_4}
 use Rattle.gimli_lines_write_unit.specs.HeaderContents.{header_file, header_files}
-use Rattle.gimli_lines_write_unit.specs.HeaderBytes.{all_bytes, text_bytes, file_bytes_to_4, file_bytes_of_5}
+use Rattle.gimli_lines_write_unit.specs.HeaderBytes.{details_bytes}
 use Rattle.gimli_lines_write_unit.proofs.WrittenLists.{item_view}
 
 module _ (strings line_strings : List (List ℕ)) (present : Bool) (empty : Text) where
@@ -61,20 +63,27 @@ sources_of_5 version b new = sym (ap (λ c. not c && b) (lt-leb version 4 new))
 abbrev pub details_to_4 : Details
 details_to_4 = record { has_timestamp = true; has_size = true; has_md5 = false; has_source = false }
 
-module _ (is_big : Bool) (e : Encoding) where
-  as_to_4 : (f : WrittenFile) → file_bytes_of_5 is_big e details_to_4 DW_FORM_string.0 DW_FORM_string.0 f
-      ≡ file_bytes_to_4 is_big e f
-  as_to_4 f = ap (λ l. join_bytes (text_bytes is_big e DW_FORM_string.0 f.path) (Ok l))
-      (append-nil (unsigned_string f.directory ++ (unsigned_string f.timestamp ++ (unsigned_string f.size ++ [])))
-      ∙ ap (λ l. unsigned_string f.directory ++ (unsigned_string f.timestamp ++ l))
-      (append-nil (unsigned_string f.size)))
+-- ---- the bytes of a file
+
+-- a field where a test holds
+spelled_when : (b : Bool) (x : WrittenField) → spelled_fields (when b x) ≡ (if b then x.bytes else [])
+spelled_when true x = append-nil x.bytes
+spelled_when false x = refl
+
+module _ (is_big : Bool) (format : Format) where
+  -- its path, its details, and its text where it is recorded
+  pub file_is : (d : Details) (f : WrittenFile)
+      → spelled_text is_big format f.path
+      ++ (details_bytes d f ++ (if d.has_source then spelled_text is_big format f.source else []))
+      ≡ spelled_file is_big format d f
+  file_is d f = simp (flat_map-append {X = WrittenField} {A = ℕ}, spelled_when, append_assoc)
 
   -- Up to version 4 files are written as in version 5, with when each was modified and its size.
-  pub all_as_to_4 : (files : List WrittenFile)
-      → all_bytes (file_bytes_of_5 is_big e details_to_4 DW_FORM_string.0 DW_FORM_string.0) files
-      ≡ all_bytes (file_bytes_to_4 is_big e) files
-  all_as_to_4 [] = refl
-  all_as_to_4 (f ∷ files) =
-      ap (λ r. join_bytes r
-      (all_bytes (file_bytes_of_5 is_big e details_to_4 DW_FORM_string.0 DW_FORM_string.0) files)) (as_to_4 f)
-      ∙ ap (λ r. join_bytes (file_bytes_to_4 is_big e f) r) (all_as_to_4 files)
+  pub files_to_4 : (files : List WrittenFile) → flat_map (spelled_file is_big format details_to_4) files
+      ≡ flat_map (spelled_file_to_4 is_big format) files
+  files_to_4 [] = refl
+  files_to_4 (f ∷ files) =
+      ap (λ l. (spelled_text is_big format f.path
+      ++ (unsigned_string f.directory ++ (unsigned_string f.timestamp ++ l)))
+      ++ flat_map (spelled_file is_big format details_to_4) files) (append-nil (unsigned_string f.size))
+      ∙ ap (λ l. spelled_file_to_4 is_big format f ++ l) (files_to_4 files)

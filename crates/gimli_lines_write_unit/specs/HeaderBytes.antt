@@ -1,118 +1,97 @@
--- The bytes of a header, piece by piece, or the first refusal (DWARF 5, 6.2.4).
-use Rattle.std.specs.Prelude.{ℕ, ◌==◌, nat_le, Bool, List, [], ◌∷◌, ◌++◌, length, map, Result, Ok, Err, if◌then◌else◌}
+-- The bytes of a header, or the first refusal of its texts (DWARF 5, 6.2.4).
+use Rattle.std.specs.Prelude.{ℕ, ◌^◌, ◌==◌, nat_lt, nat_le, Bool, false, List, [], ◌∷◌, ◌++◌, flat_map, Result, Ok, Err, if◌then◌else◌}
 use Rattle.gimli_lines_write_tables.specs.Encoding.{Encoding}
 use Rattle.gimli_lines_write_tables.specs.Format.{Format}
 use Rattle.gimli_lines_write_tables.specs.TheConstants.{DW_FORM_string}
 use Rattle.gimli_lines_write_tables.specs.FormatSizes.{word_size}
 use Rattle.gimli_lines_write_tables.specs.Spelling.{unsigned_string}
 use Rattle.gimli_lines_write_tables.specs.WriteError.{Error}
-use Rattle.gimli_lines_write_tables.specs.WriteError.TheVariants.{NeedVersion, LineStringFormMismatch}
-use Rattle.gimli_lines_write_tables.specs.NumberBytes.{bytes_in_width}
+use Rattle.gimli_lines_write_tables.specs.WriteError.TheVariants.{NeedVersion, LineStringFormMismatch, ValueTooLarge}
 use Rattle.gimli_lines_write_tables.specs.LineRules.{LineRules}
-use Rattle.gimli_lines_write_tables.specs.EntryBytes.{join_bytes}
-use Rattle.gimli_lines_write_spec.specs.HeaderTexts.{Text, in_header, of_strings, of_line_strings, form_of, form_in}
-use Rattle.gimli_lines_write_spec.specs.EntryFields.{WrittenFile, Details, directory_formats, file_formats, spelled_formats}
-use Rattle.gimli_lines_write_spec.specs.HeaderSpelling.{Tables, spelled_parameters, spelled_opcodes}
+use Rattle.gimli_lines_write_spec.specs.HeaderTexts.{Text, in_header, of_strings, of_line_strings, form_of, form_in, form_in_version}
+use Rattle.gimli_lines_write_spec.specs.EntryFields.{WrittenFile, Details}
+use Rattle.gimli_lines_write_spec.specs.HeaderSpelling.{Tables, path_form, source_form, spelled_header}
 
--- ---- texts
+-- ---- bytes that may be refused
+
+-- bytes, or the first of their refusals
+abbrev pub bytes_or_refusal : List Error → List ℕ → Result (List ℕ) Error
+bytes_or_refusal [] bytes = Ok bytes
+bytes_or_refusal (e ∷ _) bytes = Err e
+
+-- the bytes of things one after the other, or the first refusal of one
+abbrev pub all_or_refusal : {A : Type 0} → (A → List Error) → (A → List ℕ) → List A
+    → Result (List ℕ) Error
+all_or_refusal refusals spelled xs =
+    bytes_or_refusal (flat_map refusals xs) (flat_map spelled xs)
+
+-- ---- why a text is refused
 
 -- A text of another form than its list's: below version 5 texts by reference can't be expressed.
 abbrev pub mismatch : ℕ → Error
 mismatch version = if nat_le version 4 then NeedVersion else LineStringFormMismatch
 
--- a text, or an offset in as many bytes as the format gives offsets, where they hold it
-abbrev pub sized_text : Bool → Format → Text → Result (List ℕ) Error
-sized_text is_big format (in_header text) = Ok (text ++ 0 ∷ [])
-sized_text is_big format (of_strings offset) = bytes_in_width is_big (word_size format) offset
-sized_text is_big format (of_line_strings offset) = bytes_in_width is_big (word_size format) offset
+-- an offset that is too large for an offset of the format
+abbrev pub offset_refusals : Format → ℕ → List Error
+offset_refusals format offset =
+    if nat_lt offset (256 ^ word_size format) then [] else ValueTooLarge ∷ []
 
--- a text in a list of this form
-abbrev pub text_bytes : Bool → Encoding → ℕ → Text → Result (List ℕ) Error
-text_bytes is_big e form t =
-    if form_of t == form then sized_text is_big e.format t else Err (mismatch e.version)
+-- that of a text by reference
+abbrev pub reference_refusals : Format → Text → List Error
+reference_refusals format (in_header text) = []
+reference_refusals format (of_strings offset) = offset_refusals format offset
+reference_refusals format (of_line_strings offset) = offset_refusals format offset
 
--- the bytes of items, one after the other
-abbrev pub all_bytes : {A : Type 0} → (A → Result (List ℕ) Error) → List A → Result (List ℕ) Error
-all_bytes f [] = Ok []
-all_bytes f (x ∷ xs) = join_bytes (f x) (all_bytes f xs)
+-- a text in a list of a form
+abbrev pub text_refusals : Encoding → ℕ → Text → List Error
+text_refusals e form t =
+    if form_of t == form then reference_refusals e.format t else mismatch e.version ∷ []
 
--- ---- files
+-- ---- why a header is refused, in the order in which its texts are written
 
--- what follows the path up to version 4
-abbrev pub bytes_after_path : WrittenFile → List ℕ
-bytes_after_path f =
-    unsigned_string f.directory ++ (unsigned_string f.timestamp ++ unsigned_string f.size)
+-- the directories
+abbrev pub directories_refusals : Encoding → List Text → List Error
+directories_refusals e directories =
+    flat_map (text_refusals e (form_in_version e.version (form_in directories))) directories
 
--- a file up to version 4
-abbrev pub file_bytes_to_4 : Bool → Encoding → WrittenFile → Result (List ℕ) Error
-file_bytes_to_4 is_big e f =
-    join_bytes (text_bytes is_big e DW_FORM_string.0 f.path) (Ok (bytes_after_path f))
+-- a file in lists of these forms, with its text where texts of files are written
+abbrev pub file_refusals : Encoding → Bool → ℕ → ℕ → WrittenFile → List Error
+file_refusals e has_source path_form source_form f =
+    text_refusals e path_form f.path
+    ++ (if has_source then text_refusals e source_form f.source else [])
 
--- what follows the path in version 5, the source apart
+-- the files up to version 4
+abbrev pub files_refusals_to_4 : Encoding → Tables → List Error
+files_refusals_to_4 e t =
+    flat_map (file_refusals e false DW_FORM_string.0 DW_FORM_string.0) t.files
+
+-- the files in version 5
+abbrev pub files_refusals_of_5 : Encoding → Tables → List Error
+files_refusals_of_5 e t =
+    flat_map (file_refusals e t.details.has_source (path_form t) (source_form t)) t.files
+
+-- the files
+abbrev pub files_refusals : Encoding → Tables → List Error
+files_refusals e t =
+    if nat_le e.version 4 then files_refusals_to_4 e t else files_refusals_of_5 e t
+
+-- the directories, then the files
+abbrev pub header_refusals : Encoding → Tables → List Error
+header_refusals e t = directories_refusals e t.directories ++ files_refusals e t
+
+-- ---- the header
+
+-- the fields after the second length, or the first refusal
+unfoldable pub header_bytes : Bool → LineRules → Tables → Result (List ℕ) Error
+header_bytes is_big rules t =
+    bytes_or_refusal (header_refusals rules.encoding t) (spelled_header rules is_big t)
+
+-- ---- a part of a file
+
+-- what follows its path, its text apart
 abbrev pub details_bytes : Details → WrittenFile → List ℕ
 details_bytes d f =
     unsigned_string f.directory
     ++ ((if d.has_timestamp then unsigned_string f.timestamp else [])
     ++ ((if d.has_size then unsigned_string f.size else [])
     ++ (if d.has_md5 then f.md5 else [])))
-
--- a file in version 5, in lists of these forms
-abbrev pub file_bytes_of_5 : Bool → Encoding → Details → ℕ → ℕ → WrittenFile → Result (List ℕ) Error
-file_bytes_of_5 is_big e d path_form source_form f =
-    join_bytes (text_bytes is_big e path_form f.path)
-    (join_bytes (Ok (details_bytes d f))
-    (if d.has_source then text_bytes is_big e source_form f.source else Ok []))
-
--- ---- tables
-
--- in version 5 a format, how many directories there are, and the directories
-abbrev pub directory_entries_bytes : Bool → Encoding → List Text → Result (List ℕ) Error
-directory_entries_bytes is_big e directories =
-    join_bytes (Ok (spelled_formats (directory_formats (form_in directories))))
-    (join_bytes (Ok (unsigned_string (length directories)))
-    (all_bytes (text_bytes is_big e (form_in directories)) directories))
-
--- the directories in every version
-abbrev pub directories_bytes : Bool → Encoding → List Text → Result (List ℕ) Error
-directories_bytes is_big e directories =
-    if nat_le e.version 4 then join_bytes
-    (all_bytes (text_bytes is_big e DW_FORM_string.0) directories) (Ok (0 ∷ []))
-    else directory_entries_bytes is_big e directories
-
--- the form of the files' paths
-abbrev pub form_of_paths : List WrittenFile → ℕ
-form_of_paths files = form_in (map (λ (f : WrittenFile). f.path) files)
-
--- the form of the files' texts
-abbrev pub form_of_sources : List WrittenFile → ℕ
-form_of_sources files = form_in (map (λ (f : WrittenFile). f.source) files)
-
--- in version 5 formats of these forms, how many files there are, and the files
-abbrev pub entries_of_files : Bool → Encoding → Details → ℕ → ℕ → List WrittenFile
-    → Result (List ℕ) Error
-entries_of_files is_big e d path_form source_form files =
-    join_bytes (Ok (spelled_formats (file_formats d path_form source_form)))
-    (join_bytes (Ok (unsigned_string (length files)))
-    (all_bytes (file_bytes_of_5 is_big e d path_form source_form) files))
-
--- the files in version 5
-abbrev pub described_files : Bool → Encoding → Details → List WrittenFile → Result (List ℕ) Error
-described_files is_big e d files =
-    entries_of_files is_big e d (form_of_paths files) (form_of_sources files) files
-
--- the files in every version
-abbrev pub files_bytes : Bool → Encoding → Details → List WrittenFile → Result (List ℕ) Error
-files_bytes is_big e d files =
-    if nat_le e.version 4 then join_bytes (all_bytes (file_bytes_to_4 is_big e) files) (Ok (0 ∷ []))
-    else described_files is_big e d files
-
--- the directories and files
-abbrev pub tables_bytes : Bool → Encoding → Tables → Result (List ℕ) Error
-tables_bytes is_big e t =
-    join_bytes (directories_bytes is_big e t.directories) (files_bytes is_big e t.details t.files)
-
--- the fields after the second length
-abbrev pub header_bytes : Bool → LineRules → Tables → Result (List ℕ) Error
-header_bytes is_big rules t =
-    join_bytes (Ok (spelled_parameters rules ++ spelled_opcodes))
-    (tables_bytes is_big rules.encoding t)

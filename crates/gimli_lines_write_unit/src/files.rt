@@ -5,7 +5,9 @@ ghost use Rattle.gimli_lines_write_tables.specs.EntryBytes.{Continues};
 ghost use Rattle.gimli_lines_write_tables.specs.FileTables.{in_header, text_of, file_of, info_of};
 ghost use Rattle.gimli_lines_write_unit.specs.HeaderContents.{source_text, header_file, details_of};
 ghost use Rattle.gimli_lines_write_tables.specs.LineStrings.{IsKnown};
-ghost use Rattle.gimli_lines_write_unit.specs.HeaderBytes.{details_bytes, text_bytes, file_bytes_of_5};
+ghost use Rattle.gimli_lines_write_spec.specs.HeaderTexts.{spelled_text};
+ghost use Rattle.gimli_lines_write_spec.specs.EntryFields.{spelled_file};
+ghost use Rattle.gimli_lines_write_unit.specs.HeaderBytes.{bytes_or_refusal, text_refusals, file_refusals, details_bytes};
 
 use crate::details::FileDetails;
 use crate::pieces::{write_bytes_if, write_number_if};
@@ -54,10 +56,11 @@ fn write_source<W: Writer>(
 ) -> Result<(), Error>
     requires { present ≡ true → IsKnown strings.now line_strings.now
         (unwrap_or (info_of info.now).source (text_of empty.now)) }
-    ensures { Continues result (W.contents w.old) (W.contents w.new)
-        (if present then text_bytes (W.contents w.old).is_big encoding form.0
-        (source_text strings.now line_strings.now present (text_of empty.now)
-        (info_of info.now).source) else Ok []) }
+    ensures { let t = source_text strings.now line_strings.now present (text_of empty.now)
+        (info_of info.now).source in
+        Continues result (W.contents w.old) (W.contents w.new)
+        (bytes_or_refusal (if present then text_refusals encoding form.0 t else [])
+        (if present then spelled_text (W.contents w.old).is_big encoding.format t else [])) }
 {
     if present {
         return write_text(
@@ -95,11 +98,12 @@ pub fn write_file<W: Writer>(
     requires source { details.has_source ≡ true
         → IsKnown strings.now line_strings.now
         (unwrap_or (info_of info.now).source (text_of empty.now)) }
-    ensures { Continues result (W.contents w.old) (W.contents w.new)
-        (file_bytes_of_5 (W.contents w.old).is_big encoding (details_of details) forms.path.0
-        forms.source.0
-        (header_file strings.now line_strings.now details.has_source (text_of empty.now)
-        (file_of file.now) (info_of info.now))) }
+    ensures { let f = header_file strings.now line_strings.now details.has_source
+        (text_of empty.now) (file_of file.now) (info_of info.now) in
+        Continues result (W.contents w.old) (W.contents w.new)
+        (bytes_or_refusal
+        (file_refusals encoding details.has_source forms.path.0 forms.source.0 f)
+        (spelled_file (W.contents w.old).is_big encoding.format (details_of details) f)) }
 {
     write_text(w, encoding, forms.path, strings, line_strings, &file.path)?;
     write_details(w, details, file, info)?;

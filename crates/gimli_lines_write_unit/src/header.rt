@@ -1,10 +1,14 @@
 //! Headers.
 
-ghost use Rattle.std.specs.Prelude.{◌≡◌, ◌<◌, ◌≤◌, [], ◌∷◌, Ok, length};
-ghost use Rattle.gimli_lines_write_tables.specs.EntryBytes.{Continues, join_bytes};
+ghost use Rattle.std.specs.Prelude.{◌≡◌, ◌<◌, ◌≤◌, ◌++◌, false, flat_map, length};
+ghost use Rattle.gimli_lines_write_tables.specs.EntryBytes.{Continues};
 ghost use Rattle.gimli_lines_write_tables.specs.FileTables.{text_of};
 ghost use Rattle.gimli_lines_write_unit.specs.HeaderContents.{listed_directories, tables_with, details_of, writes_sources, AllKnown};
-ghost use Rattle.gimli_lines_write_unit.specs.HeaderBytes.{all_bytes, file_bytes_to_4, file_bytes_of_5, form_of_paths, form_of_sources, entries_of_files, described_files, directories_bytes, files_bytes, header_bytes};
+ghost use Rattle.gimli_lines_write_tables.specs.Spelling.{unsigned_string};
+ghost use Rattle.gimli_lines_write_tables.specs.TheConstants.{DW_FORM_string};
+ghost use Rattle.gimli_lines_write_spec.specs.EntryFields.{spelled_file, file_formats, spelled_formats};
+ghost use Rattle.gimli_lines_write_spec.specs.HeaderSpelling.{path_form, source_form, spelled_file_to_4, spelled_files_to_4, spelled_files_of_5, spelled_directories, spelled_files};
+ghost use Rattle.gimli_lines_write_unit.specs.HeaderBytes.{bytes_or_refusal, all_or_refusal, file_refusals, directories_refusals, files_refusals_to_4, files_refusals_of_5, files_refusals, header_bytes};
 
 use crate::details::FileDetails;
 use crate::files::FileForms;
@@ -86,7 +90,8 @@ impl<'a> HeaderTables<'a> {
     fn write_directories<W: Writer>(&self, w: &mut W, encoding: Encoding) -> Result<(), Error>
         requires { self.now.version ≡ encoding.version }
         ensures { Continues result (W.contents w.old) (W.contents w.new)
-            (directories_bytes (W.contents w.old).is_big encoding self.now.listed.directories) }
+            (bytes_or_refusal (directories_refusals encoding self.now.listed.directories)
+            (spelled_directories encoding (W.contents w.old).is_big self.now.listed.directories)) }
     {
         let directories = listed_directories(encoding.version, self.tables.directories());
         write_directories(w, encoding, self.strings, self.line_strings, directories)
@@ -102,8 +107,10 @@ impl<'a> HeaderTables<'a> {
     ) -> Result<(), Error>
         requires { details.has_source ≡ writes_sources self.now }
         ensures { Continues result (W.contents w.old) (W.contents w.new)
-            (all_bytes (file_bytes_of_5 (W.contents w.old).is_big encoding (details_of details)
-            forms.path.0 forms.source.0) self.now.listed.files) }
+            (all_or_refusal
+            (file_refusals encoding details.has_source forms.path.0 forms.source.0)
+            (spelled_file (W.contents w.old).is_big encoding.format (details_of details))
+            self.now.listed.files) }
     {
         let files = self.tables.files();
         let infos = self.tables.infos();
@@ -125,7 +132,8 @@ impl<'a> HeaderTables<'a> {
     fn write_entries_to_4<W: Writer>(&self, w: &mut W, encoding: Encoding) -> Result<(), Error>
         requires { self.now.version ≤ 4 }
         ensures { Continues result (W.contents w.old) (W.contents w.new)
-            (all_bytes (file_bytes_to_4 (W.contents w.old).is_big encoding)
+            (all_or_refusal (file_refusals encoding false DW_FORM_string.0 DW_FORM_string.0)
+            (spelled_file_to_4 (W.contents w.old).is_big encoding.format)
             self.now.listed.files) }
     {
         let details = FileDetails {
@@ -145,8 +153,8 @@ impl<'a> HeaderTables<'a> {
     fn write_files_to_4<W: Writer>(&self, w: &mut W, encoding: Encoding) -> Result<(), Error>
         requires { self.now.version ≤ 4 }
         ensures { Continues result (W.contents w.old) (W.contents w.new)
-            (join_bytes (all_bytes (file_bytes_to_4 (W.contents w.old).is_big encoding)
-            self.now.listed.files) (Ok (0 ∷ []))) }
+            (bytes_or_refusal (files_refusals_to_4 encoding self.now.listed)
+            (spelled_files_to_4 (W.contents w.old).is_big encoding.format self.now.listed)) }
     {
         self.write_entries_to_4(w, encoding)?;
         w.write_u8(0)
@@ -162,9 +170,14 @@ impl<'a> HeaderTables<'a> {
         forms: FileForms,
     ) -> Result<(), Error>
         requires { 4 < self.now.version }
-        ensures { Continues result (W.contents w.old) (W.contents w.new)
-            (entries_of_files (W.contents w.old).is_big encoding self.now.listed.details
-            forms.path.0 forms.source.0 self.now.listed.files) }
+        ensures { let t = self.now.listed in
+            Continues result (W.contents w.old) (W.contents w.new)
+            (bytes_or_refusal (flat_map
+            (file_refusals encoding t.details.has_source forms.path.0 forms.source.0) t.files)
+            (spelled_formats (file_formats t.details forms.path.0 forms.source.0)
+            ++ (unsigned_string (length t.files)
+            ++ flat_map (spelled_file (W.contents w.old).is_big encoding.format t.details)
+            t.files))) }
     {
         let formats = file_formats(alloc, self.details, forms.path, forms.source)?;
         write_formats(w, formats.as_slice())?;
@@ -175,8 +188,8 @@ impl<'a> HeaderTables<'a> {
     // The forms of the paths and of the texts of files in version 5.
     fn forms(&self) -> FileForms
         requires { 4 < self.now.version }
-        ensures path { result.path.0 ≡ form_of_paths self.now.listed.files }
-        ensures source { result.source.0 ≡ form_of_sources self.now.listed.files }
+        ensures path { result.path.0 ≡ path_form self.now.listed }
+        ensures source { result.source.0 ≡ source_form self.now.listed }
     {
         let files = self.tables.files();
         let infos = self.tables.infos();
@@ -192,8 +205,8 @@ impl<'a> HeaderTables<'a> {
     ) -> Result<(), Error>
         requires { 4 < self.now.version }
         ensures { Continues result (W.contents w.old) (W.contents w.new)
-            (described_files (W.contents w.old).is_big encoding self.now.listed.details
-            self.now.listed.files) }
+            (bytes_or_refusal (files_refusals_of_5 encoding self.now.listed)
+            (spelled_files_of_5 (W.contents w.old).is_big encoding.format self.now.listed)) }
     {
         self.write_lists_of_5(alloc, w, encoding, self.forms())
     }
@@ -207,8 +220,8 @@ impl<'a> HeaderTables<'a> {
     ) -> Result<(), Error>
         requires { self.now.version ≡ encoding.version }
         ensures { Continues result (W.contents w.old) (W.contents w.new)
-            (files_bytes (W.contents w.old).is_big encoding self.now.listed.details
-            self.now.listed.files) }
+            (bytes_or_refusal (files_refusals encoding self.now.listed)
+            (spelled_files encoding (W.contents w.old).is_big self.now.listed)) }
     {
         if encoding.version <= 4 {
             return self.write_files_to_4(w, encoding);
@@ -217,6 +230,7 @@ impl<'a> HeaderTables<'a> {
     }
 
     /// Writes the fields of a header after its second length.
+    #[tactic(auto, unfolding(crate::specs::HeaderBytes::header_bytes))]
     pub fn write_header<W: Writer>(
         &self,
         alloc: Global,

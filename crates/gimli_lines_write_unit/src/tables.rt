@@ -1,12 +1,14 @@
 //! The tables of a header: its directories and files.
 
-ghost use Rattle.std.specs.Prelude.{◌≡◌, ℕ, List, ◌<◌, All, true, Ok, map, length, unwrap_or};
+ghost use Rattle.std.specs.Prelude.{◌≡◌, ℕ, List, ◌<◌, All, true, Ok, flat_map, map, length, unwrap_or};
 ghost use Rattle.gimli_lines_write_tables.specs.EntryBytes.{Continues};
 ghost use Rattle.gimli_lines_write_tables.specs.FileTables.{text_of, file_of, info_of};
 ghost use Rattle.gimli_lines_write_spec.specs.HeaderTexts.{form_in};
+ghost use Rattle.gimli_lines_write_spec.specs.EntryFields.{WrittenFile, spelled_file};
+ghost use Rattle.gimli_lines_write_spec.specs.HeaderSpelling.{spelled_directories, spelled_directories_of_5};
 ghost use Rattle.gimli_lines_write_unit.specs.HeaderContents.{header_text, header_files, details_of};
 ghost use Rattle.gimli_lines_write_tables.specs.LineStrings.{IsKnown};
-ghost use Rattle.gimli_lines_write_unit.specs.HeaderBytes.{all_bytes, file_bytes_of_5, directory_entries_bytes, directories_bytes, form_of_paths, form_of_sources};
+ghost use Rattle.gimli_lines_write_unit.specs.HeaderBytes.{bytes_or_refusal, all_or_refusal, text_refusals, file_refusals, directories_refusals};
 
 use crate::details::FileDetails;
 use crate::files::{FileForms, source_or, write_file};
@@ -36,9 +38,9 @@ pub fn write_files<W: Writer>(
         → All (λ i. IsKnown strings.now line_strings.now
         (unwrap_or (info_of i).source (text_of empty.now))) infos.now }
     ensures { Continues result (W.contents w.old) (W.contents w.new)
-        (all_bytes (file_bytes_of_5 (W.contents w.old).is_big encoding (details_of details)
-        forms.path.0
-        forms.source.0)
+        (all_or_refusal
+        (file_refusals encoding details.has_source forms.path.0 forms.source.0)
+        (spelled_file (W.contents w.old).is_big encoding.format (details_of details))
         (header_files strings.now line_strings.now details.has_source (text_of empty.now)
         (map file_of files.now) (map info_of infos.now))) }
 {
@@ -78,9 +80,11 @@ fn write_directories_of_5<W: Writer>(
     directories: &[LineString],
 ) -> Result<(), Error>
     requires { All (λ t. IsKnown strings.now line_strings.now (text_of t)) directories.now }
-    ensures { Continues result (W.contents w.old) (W.contents w.new)
-        (directory_entries_bytes (W.contents w.old).is_big encoding
-        (map (λ t. header_text strings.now line_strings.now (text_of t)) directories.now)) }
+    ensures { let ds = map (λ t. header_text strings.now line_strings.now (text_of t))
+        directories.now in
+        Continues result (W.contents w.old) (W.contents w.new)
+        (bytes_or_refusal (flat_map (text_refusals encoding (form_in ds)) ds)
+        (spelled_directories_of_5 (W.contents w.old).is_big encoding.format ds)) }
 {
     let form = first_form(directories);
     write_formats(
@@ -103,9 +107,11 @@ pub fn write_directories<W: Writer>(
     directories: &[LineString],
 ) -> Result<(), Error>
     requires { All (λ t. IsKnown strings.now line_strings.now (text_of t)) directories.now }
-    ensures { Continues result (W.contents w.old) (W.contents w.new)
-        (directories_bytes (W.contents w.old).is_big encoding
-        (map (λ t. header_text strings.now line_strings.now (text_of t)) directories.now)) }
+    ensures { let ds = map (λ t. header_text strings.now line_strings.now (text_of t))
+        directories.now in
+        Continues result (W.contents w.old) (W.contents w.new)
+        (bytes_or_refusal (directories_refusals encoding ds)
+        (spelled_directories encoding (W.contents w.old).is_big ds)) }
 {
     if encoding.version <= 4 {
         write_texts(
@@ -130,11 +136,11 @@ pub fn first_forms(
 ) -> FileForms
     requires { length infos.now ≡ length files.now }
     ensures path { (strings line_strings : List (List ℕ)) → result.path.0
-        ≡ form_of_paths (header_files strings line_strings present (text_of empty.now)
-        (map file_of files.now) (map info_of infos.now)) }
+        ≡ form_in (map (λ (f : WrittenFile). f.path) (header_files strings line_strings present
+        (text_of empty.now) (map file_of files.now) (map info_of infos.now))) }
     ensures source { (strings line_strings : List (List ℕ)) → result.source.0
-        ≡ form_of_sources (header_files strings line_strings present (text_of empty.now)
-        (map file_of files.now) (map info_of infos.now)) }
+        ≡ form_in (map (λ (f : WrittenFile). f.source) (header_files strings line_strings present
+        (text_of empty.now) (map file_of files.now) (map info_of infos.now))) }
 {
     FileForms {
         path: match files.first() {

@@ -3,10 +3,10 @@
 ghost use Rattle.std.specs.Prelude.{◌≡◌, All, map, []};
 ghost use Rattle.gimli_lines_write_tables.specs.EntryBytes.{Continues};
 ghost use Rattle.gimli_lines_write_tables.specs.FileTables.{text_of};
-ghost use Rattle.gimli_lines_write_spec.specs.HeaderTexts.{form_of};
+ghost use Rattle.gimli_lines_write_spec.specs.HeaderTexts.{form_of, spelled_text};
 ghost use Rattle.gimli_lines_write_unit.specs.HeaderContents.{header_text};
 ghost use Rattle.gimli_lines_write_tables.specs.LineStrings.{IsKnown};
-ghost use Rattle.gimli_lines_write_unit.specs.HeaderBytes.{mismatch, sized_text, text_bytes, all_bytes};
+ghost use Rattle.gimli_lines_write_unit.specs.HeaderBytes.{bytes_or_refusal, all_or_refusal, mismatch, reference_refusals, text_refusals};
 
 use gimli_lines_write_tables::{
     DW_FORM_line_strp, DW_FORM_string, DW_FORM_strp, DwForm, Encoding, Error, LineString,
@@ -36,6 +36,7 @@ fn mismatch(version: u16) -> Error
 }
 
 // Writes a text, or where it begins in its section.
+#[tactic(auto, using(crate::proofs::RefusedBytes::word_is))]
 fn write_text_bytes<W: Writer>(
     w: &mut W,
     encoding: Encoding,
@@ -44,9 +45,10 @@ fn write_text_bytes<W: Writer>(
     text: &LineString,
 ) -> Result<(), Error>
     requires { IsKnown strings.now line_strings.now (text_of text.now) }
-    ensures { Continues result (W.contents w.old) (W.contents w.new)
-        (sized_text (W.contents w.old).is_big encoding.format
-        (header_text strings.now line_strings.now (text_of text.now))) }
+    ensures { let t = header_text strings.now line_strings.now (text_of text.now) in
+        Continues result (W.contents w.old) (W.contents w.new)
+        (bytes_or_refusal (reference_refusals encoding.format t)
+        (spelled_text (W.contents w.old).is_big encoding.format t)) }
 {
     let size = encoding.format.word_size();
     match text {
@@ -70,9 +72,10 @@ pub fn write_text<W: Writer>(
     text: &LineString,
 ) -> Result<(), Error>
     requires { IsKnown strings.now line_strings.now (text_of text.now) }
-    ensures { Continues result (W.contents w.old) (W.contents w.new)
-        (text_bytes (W.contents w.old).is_big encoding form.0
-        (header_text strings.now line_strings.now (text_of text.now))) }
+    ensures { let t = header_text strings.now line_strings.now (text_of text.now) in
+        Continues result (W.contents w.old) (W.contents w.new)
+        (bytes_or_refusal (text_refusals encoding form.0 t)
+        (spelled_text (W.contents w.old).is_big encoding.format t)) }
 {
     if form_of(text).0 != form.0 {
         return Err(mismatch(encoding.version));
@@ -91,7 +94,8 @@ pub fn write_texts<W: Writer>(
 ) -> Result<(), Error>
     requires { All (λ t. IsKnown strings.now line_strings.now (text_of t)) texts.now }
     ensures { Continues result (W.contents w.old) (W.contents w.new)
-        (all_bytes (text_bytes (W.contents w.old).is_big encoding form.0)
+        (all_or_refusal (text_refusals encoding form.0)
+        (spelled_text (W.contents w.old).is_big encoding.format)
         (map (λ t. header_text strings.now line_strings.now (text_of t)) texts.now)) }
 {
     for text in texts {

@@ -107,7 +107,7 @@ fn check_rules(rules: LineRules) -> Result<(), Error>
 /// and others have one there. Versions other than 2 to 5 are refused, below version 5 texts by
 /// reference, below version 4 more than one operation an instruction, in version 5 texts of two
 /// forms in one list. Refused, the writer may have a prefix of the unit.
-#[tactic(auto, using(crate::proofs::LengthPatches::extends_self, crate::proofs::EmptyTexts::strings_gain, crate::proofs::EmptyTexts::line_strings_gain))]
+#[tactic(auto, using(crate::proofs::LengthPatches::extends_self, crate::proofs::EmptyTexts::gains))]
 pub fn write_unit<W: Writer>(
     alloc: Global,
     w: &mut W,

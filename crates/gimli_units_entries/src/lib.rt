@@ -25,9 +25,7 @@ pub use gimli_core_base::{
 };
 pub use gimli_units_forms::attribute::bytes_are_small_numbers;
 pub use gimli_units_forms::skipping::{skipping_follows_reading, skips_by_runs};
-pub use gimli_units_forms::{
-    Attribute, AttributeValue, Spelling, parse_attribute, skip_attributes, spelling_of,
-};
+pub use gimli_units_forms::{Attribute, AttributeValue, parse_attribute, skip_attributes};
 pub use gimli_units_headers::{
     ArangeEntry, ArangeEntryIter, ArangeHeader, ArangeHeaderIter, DebugAranges, DebugInfo,
     DebugInfoUnitHeadersIter, OffsetInSection, OffsetInUnit, Range, Reader, UnitHeader, UnitOffset,

@@ -5,8 +5,6 @@ pub use Rattle.gimli_core_abbrev.specs.Places
 pub use Rattle.gimli_core_abbrev.specs.TableCache
 pub use Rattle.gimli_core_abbrev.specs.TableParsing
 pub use Rattle.gimli_core_abbrev.specs.declared.abbreviation.AttributeSpecification
-pub use Rattle.gimli_core_abbrev.specs.declared.cache.AbbreviationsCache
-pub use Rattle.gimli_core_abbrev.specs.FormWidths
 pub mod FormSpellings
 pub mod AttributeValues
 pub mod AttributeMeanings

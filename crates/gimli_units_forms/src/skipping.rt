@@ -53,10 +53,10 @@ fn skip_string<R: Reader>(place: &mut R) -> Result<(), Error>
     Ok(())
 }
 
-// The next byte, where it is an unsigned LEB128 number by itself.
+/// The next byte, where it is an unsigned LEB128 number by itself (DWARF 5, 7.6).
 #[inline(always)]
 #[tactic(auto, unfolding(gimli_core_base::specs::NumberParsers::unsigned))]
-fn short_number<R: Reader>(place: &R) -> Option<u64>
+pub fn short_number<R: Reader>(place: &R) -> Option<u64>
     ensures number { IfSome result
         (λ n. unsigned (R.view place.now) ≡ Ok (n, after 1 (R.view place.now))) }
     ensures there { IfSome result (λ n. 1 ≤ length (R.view place.now).bytes) }

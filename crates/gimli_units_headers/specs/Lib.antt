@@ -4,6 +4,7 @@ pub use Rattle.gimli_core_base.specs.FormatSizes
 pub use Rattle.gimli_core_base.specs.NumberParsers
 pub use Rattle.gimli_core_base.specs.Parsers
 pub use Rattle.gimli_core_base.specs.Repetition
+pub use Rattle.gimli_core_base.specs.Results
 pub use Rattle.gimli_core_base.specs.View
 pub use Rattle.gimli_core_base.specs.declared.common.Encoding
 pub use Rattle.gimli_core_base.specs.declared.common.Format

@@ -25,12 +25,6 @@ item_is_read see p None x old new is h = absurd cc
 item_is_read {E} {B} see p (Some y) x old new is h =
     let same : y ≡ x = cc in subst (λ (z : B). p old ≡ Ok (Some (see z), new)) same h
 
--- there was none
-pub none_is_read : {E B : Type 0} (see : B → E) (p : Parser (Option E)) (o : Option B) (old new : View)
-    → o ≡ None → ReadsEntry see p (Ok o) old new → bytes_left new ≡ 0
-none_is_read see p None old new is h = h
-none_is_read see p (Some y) old new is h = absurd cc
-
 -- the refusal d is handed on
 pub refusal_leaves : {E B : Type 0} (p : Parser (Option E)) (r : Result (Option B) Error) (old new : View) (d : Error)
     → IsErrAnd r (λ e. e ≡ d) → (d ≢ Memory → ReadsSome p old new ⊎ EndsAtFault p d old new)

@@ -20,7 +20,7 @@ mod resolver;
 
 pub use gimli_core_readers::{
     DebugAddr, DebugInfoOffset, DebugLineStr, DebugStr, DebugStrOffsets, DefaultBase, Expression,
-    Range, Reader, Section, UnitOffset, greatest_address, least_tombstone, wrapping_sum,
+    Range, Reader, Section, UnitOffset,
 };
 pub use header::ListsHeader;
 pub use location_entry::RawLocListEntry;

@@ -81,3 +81,11 @@ pub use Rattle.linemap_lookup_laws.specs.SplitFile
 pub use Rattle.linemap_text.specs.FittingUnits
 pub use Rattle.linemap_text.specs.ListTables
 pub use Rattle.linemap_words.specs.declared.request.WordsError
+pub use Rattle.linemap_lookup_laws.specs.DebugFiles
+pub use Rattle.linemap_lookup_laws.specs.DecompressError
+pub use Rattle.linemap_lookup_laws.specs.DecompressResults
+pub use Rattle.linemap_lookup_laws.specs.DecompressedFiles
+pub use Rattle.linemap_lookup_laws.specs.FoundFiles
+pub use Rattle.linemap_lookup_laws.specs.NamedFile
+pub use Rattle.linemap_lookup_laws.specs.Searches
+pub use Rattle.linemap_lookup_laws.specs.SymbolFiles

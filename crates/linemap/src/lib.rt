@@ -6,8 +6,9 @@ pub use linemap_commands::{
     cannot_load, cannot_write, emission, emit, no_such_target, table_out_of_memory, target_of,
 };
 pub use linemap_lookup_laws::{
-    Error, FileParts, FileSource, LoadError, MapSource, MemoryFile, PartSource, SplitSource,
-    load_out_of_memory, read_file, read_needed, read_parts, run,
+    DecompressedSource, Error, FileParts, FileSource, FilesByPath, LoadError, Loader, MapSource,
+    MemoryFile, NamedFile, PartSource, SplitSource, SystemFiles, load_decompressed, load_found,
+    load_out_of_memory, read_file, read_needed, read_parts, run, run_loaded,
 };
 pub use linemap_replay::{
     Answer, Call, OwnedFrame, OwnedLocation, OwnedName, OwnedStretch, OwnedUnit, replay,
@@ -18,7 +19,7 @@ pub use linemap_text::{
     cannot_read, emit_sections, out_of_memory, words_not_text,
 };
 pub use linemap_words::{
-    Options, Request, WordsError, explain, explain_refusal, meaning_of, read_words,
+    DebugSources, Options, Request, WordsError, explain, explain_refusal, meaning_of, read_words,
 };
 
 /// What holds of the definitions, as contracts.

@@ -15,7 +15,7 @@
 //! - `lines TABLE VERSION BITS SIZE ORDER ADDRESS` makes those of such calls that need lines: the
 //!   place of an address, its frames, all stretches and all lines.
 //! - `answered TABLE VERSION BITS SIZE ORDER ADDRESS` makes these: the frames of an address, the
-//!   place of the address 0, an answer to a load that none asked for, and the frames again.
+//!   place of 0xfff, an answer to a load that none asked for, and the frames again.
 //! - `split ADDRESS` makes calls about an address on one context over a small file whose unit has a
 //!   split file, which isn't there.
 //! - `sections TABLE VERSION BITS SIZE ORDER` asks for the bytes of the sections that a table has.

@@ -21,7 +21,7 @@ use Rattle.addr2line_elf.specs.declared.headers.SectionHeader.{SectionHeader}
 use Rattle.addr2line_elf.specs.ElfClasses.{word_size, section_header_size}
 use Rattle.addr2line_elf.specs.ElfHeaders.{file_header, section_header, header_at, headers_at}
 use Rattle.addr2line_elf.specs.ImageLoading.{or_truncated, read_in}
-use Rattle.addr2line_elf.specs.ElfImages.{Image, Identification, identification, Sections, section_count, names_index, linked_contents, contents_of, contents, table, sections_of, image_in, image_of}
+use Rattle.addr2line_elf.specs.ElfImages.{Image, Identification, identification, Sections, section_count, names_index, linked_contents, contents_of, contents, table, sections_of, image_in, image_of, image_with_headers}
 use Rattle.addr2line_elf.specs.ElfSymbols.{symbols_of, symbols_at, section_or}
 use Rattle.linemap_elf.specs.SpelledImages.{file_header_size, spelled_identification, spelled_fields, file_header_fields, spelled_section_header, FitsHeader, null_header, NamedBytes, ImageSection, program_section, spelled_name, names_section, all_sections, header_of, headers_from, body, body_end, table_offset, header_count, padding, spelled_file_header, spelled_table, spelled_image}
 use Rattle.linemap_elf.specs.ImageLaws.{is_name, ImageFits, bytes_named, SectionHasBytes, HoldsSections}
@@ -255,13 +255,7 @@ module _ (class : Class) (is_big : Bool) (sections : List NamedBytes) (fits : Im
   image = image_with class view headers names
 
   of_sections : FileHeader → Result Sections LoadError → Result Image LoadError
-  of_sections h r = r >>= λ s. Ok (record {
-    file = view;
-    class = class;
-    file_type = h.file_type;
-    sections = s.headers;
-    names = s.names;
-  })
+  of_sections h r = r >>= λ s. Ok (image_with_headers class view h s)
 
   in_file : image_in class view ≡ Ok image
   unfolding of_sections

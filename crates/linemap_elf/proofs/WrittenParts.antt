@@ -123,6 +123,9 @@ bytes_more i sections s within is =
     ap (λ (l : List NamedBytes). length (bytes_joined l)) next
     ∙ length-append s.bytes (bytes_joined (drop (i + 1) sections))
 
+-- that names and bytes fit, also those of the sections that are left
+pub ruleset contents_fit = (is_bounded, names_more, bytes_more)
+
 -- a section's header has room for it
 pub fits_section : (class : Class) (section_type name offset size : ℕ) → section_type < 256 ^ 4 → name < 256 ^ 4
     → offset < 256 ^ word_size class → size < 256 ^ word_size class

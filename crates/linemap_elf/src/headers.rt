@@ -154,7 +154,7 @@ fn header_of(section_type: u32, name: u32, offset: u64, size: u64) -> SectionHea
 }
 
 // Writes the headers of the sections and of the section of their names.
-#[tactic(auto, using(crate::proofs::WrittenParts::is_bounded, crate::proofs::WrittenParts::names_more, crate::proofs::WrittenParts::bytes_more))]
+#[tactic(auto, using(crate::proofs::WrittenParts::contents_fit))]
 fn write_headers(w: &mut ImageWriter, sections: &[Section<'_>]) -> Result<(), AllocError>
     requires { ImageFits w.old.class sections.now }
     ensures { OnOk result (w.new

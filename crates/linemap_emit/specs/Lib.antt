@@ -5,7 +5,6 @@ pub use Rattle.linemap_emit_laws.specs.LookupStretches
 pub use Rattle.linemap_emit_fits.specs.ByteOrders
 pub use Rattle.linemap_emit_fits.specs.BytesAt
 pub use Rattle.linemap_emit_fits.specs.EmissionBounds
-pub use Rattle.linemap_emit_fits.specs.EmittedEntryLaws
 pub use Rattle.linemap_emit_fits.specs.EmittedSections
 pub use Rattle.linemap_emit_fits.specs.TableEmission
 pub use Rattle.linemap_table.specs.AnswerTexts

@@ -1,6 +1,6 @@
 -- How many bytes a unit's line number program takes, and that none of them is refused.
-use Rattle.std.proofs.Common.{◌≡◌, ℕ, ◌+◌, ◌<◌, ◌≤◌, ◌^◌, Bool, true, false, cond, ◌&&◌, List, [], ◌∷◌, ◌++◌, length, map, drop, sum_by, negsuc, Option, Result, Ok, Err, refl, sym, subst, ◌∙◌, arith}
-use Rattle.std.specs.Prelude.{All, nat_le, nat_lt}
+use Rattle.std.proofs.Common.{◌≡◌, ℕ, ◌+◌, ◌<◌, ◌≤◌, ◌^◌, Bool, true, false, cond, ◌&&◌, List, [], ◌∷◌, ◌++◌, length, map, drop, sum_by, negsuc, Option, Err, refl, sym, ap, subst, ◌∙◌, arith, append_assoc}
+use Rattle.std.specs.Prelude.{All, nat_le, nat_lt, flat_map}
 use Rattle.std.proofs.lemmas.Bool.{eq-eqb, le-ltb, lt-ltb}
 use Rattle.std.proofs.lemmas.List.{length-append}
 use Rattle.std.proofs.lemmas.List.Elements.{All-head, All-tail, All-drop}
@@ -12,16 +12,16 @@ use Rattle.linemap_emit_units.specs.FormatSizes.{word_size}
 use Rattle.linemap_emit_units.specs.NumberBytes.{constant_of, bytes_in_width, length_bytes, escape, complement}
 use Rattle.linemap_emit_units.specs.WriteError.{Error}
 use Rattle.linemap_emit_units.specs.WriteError.TheVariants.{NeedVersion}
-use Rattle.linemap_emit_units.specs.EntryBytes.{join_bytes, entries_bytes}
+use Rattle.linemap_emit_units.specs.EntryBytes.{entries_bytes}
 use Rattle.linemap_emit_units.specs.BuiltRows.{first_row}
 use Rattle.linemap_emit_units.specs.LineEntry.{LineEntry}
 use Rattle.linemap_emit_units.specs.StringSections.{IsText, section_of, offset_of}
 use Rattle.linemap_emit_units.specs.FileTables.{Text, in_header, of_strings, of_line_strings, File, Info}
-use Rattle.linemap_emit_units.specs.HeaderTexts.{form_of, form_in}
-use Rattle.linemap_emit_units.specs.HeaderSpelling.{Tables, spelled_parameters, spelled_opcodes, spelled_sizes}
-use Rattle.linemap_emit_units.specs.EntryFields.{WrittenFile, directory_formats, file_formats, spelled_formats}
+use Rattle.linemap_emit_units.specs.HeaderTexts.{form_of, form_in, spelled_text}
+use Rattle.linemap_emit_units.specs.HeaderSpelling.{Tables, path_form, source_form, spelled_directories_to_4, spelled_directories_of_5, spelled_file_to_4, spelled_files_to_4, spelled_files_of_5, spelled_directories, spelled_files, spelled_header, spelled_parameters, spelled_opcodes, spelled_sizes}
+use Rattle.linemap_emit_units.specs.EntryFields.{WrittenFile, directory_formats, file_formats, spelled_formats, spelled_file}
 use Rattle.linemap_emit_units.specs.HeaderContents.{header_text, header_file, header_files, listed_directories, tables_with, records_source, details_of, empty_text, strings_after, line_strings_after}
-use Rattle.linemap_emit_units.specs.HeaderBytes.{text_bytes, all_bytes, bytes_after_path, details_bytes, file_bytes_to_4, file_bytes_of_5, directories_bytes, described_files, files_bytes, header_bytes, form_of_paths, form_of_sources}
+use Rattle.linemap_emit_units.specs.HeaderBytes.{bytes_or_refusal, offset_refusals, text_refusals, directories_refusals, file_refusals, files_refusals, header_refusals, header_bytes}
 use Rattle.linemap_emit_units.specs.UnitBytes.{body_bytes, unit_with_length, unit_bytes}
 use Rattle.linemap_emit_units.specs.BuiltPrograms.{no_details}
 use Rattle.linemap_emit_units.specs.EmittedFiles.{EmittedFiles, HasTableTexts, first_unit_files, unit_files, unit_file_ids, place_in}
@@ -60,16 +60,56 @@ escape_few : (format : Format) → length (escape format) ≤ 4
 escape_few Dwarf32 = omega arith
 escape_few Dwarf64 = omega arith
 
--- ---- lists
+-- ---- what isn't refused
 
-all_within : {A B : Type 0} (see : A → B) (f : B → Result (List ℕ) Error) (size : A → ℕ) (P : A → Type 0)
-    → ((x : A) → P x → IsWithin (size x) (f (see x))) → (xs : List A) → All P xs
-    → IsWithin (sum_by size xs) (all_bytes f (map see xs))
-all_within see f size P each [] all = bytes_within 0 [] (omega arith)
-all_within see f size P each (x ∷ xs) all =
+-- no refusals, and at most n bytes
+record Fit (n : ℕ) (refusals : List Error) (bytes : List ℕ) : Type 0 where
+  none : refusals ≡ []
+  few : length bytes ≤ n
+
+bytes_fit : (n : ℕ) (bytes : List ℕ) → length bytes ≤ n → Fit n [] bytes
+bytes_fit n bytes h = record { none = refl; few = h }
+
+both_fit : {rs ss : List Error} {a b : List ℕ} (m n limit : ℕ) → Fit m rs a → Fit n ss b → m + n ≤ limit
+    → Fit limit (rs ++ ss) (a ++ b)
+both_fit {rs} {ss} {a} {b} m n limit g h fits = record {
+  none = ap (λ l. l ++ ss) g.none ∙ h.none;
+  few = let l = length-append a b in let p = g.few in let q = h.few in omega arith;
+}
+
+-- before other bytes
+before_fit : {rs : List Error} {a : List ℕ} (m n limit : ℕ) (b : List ℕ) → Fit m rs a → length b ≤ n → m + n ≤ limit
+    → Fit limit rs (a ++ b)
+before_fit {rs} {a} m n limit b g h fits = record {
+  none = g.none;
+  few = let l = length-append a b in let p = g.few in omega arith;
+}
+
+-- after other bytes
+after_fit : {rs : List Error} {b : List ℕ} (m n limit : ℕ) (a : List ℕ) → length a ≤ m → Fit n rs b → m + n ≤ limit
+    → Fit limit rs (a ++ b)
+after_fit {rs} {b} m n limit a h g fits = record {
+  none = g.none;
+  few = let l = length-append a b in let p = g.few in omega arith;
+}
+
+all_fit : {A B : Type 0} (see : A → B) (refusals : B → List Error) (spelled : B → List ℕ) (size : A → ℕ)
+    (P : A → Type 0) → ((x : A) → P x → Fit (size x) (refusals (see x)) (spelled (see x))) → (xs : List A) → All P xs
+    → Fit (sum_by size xs) (flat_map refusals (map see xs)) (flat_map spelled (map see xs))
+all_fit see refusals spelled size P each [] all = bytes_fit 0 [] (omega arith)
+all_fit see refusals spelled size P each (x ∷ xs) all =
     let whole = sum_by-cons size x xs in
-    joined_within (size x) (sum_by size xs) _ (each x (All-head P x xs all))
-    (all_within see f size P each xs (All-tail P x xs all)) (omega arith)
+    both_fit (size x) (sum_by size xs) _ (each x (All-head P x xs all))
+    (all_fit see refusals spelled size P each xs (All-tail P x xs all)) (omega arith)
+
+offset_fits : (is_big : Bool) (format : Format) (n : ℕ) → n < 2 ^ 31
+    → Fit 8 (offset_refusals format n) (number_bytes is_big (word_size format) n)
+offset_fits is_big Dwarf32 n low =
+    rw (lt-ltb n (256 ^ 4) (omega arith))
+    (bytes_fit 8 (number_bytes is_big 4 n) (let l = length-spelled is_big 4 n in omega arith))
+offset_fits is_big Dwarf64 n low =
+    rw (lt-ltb n (256 ^ 8) (omega arith))
+    (bytes_fit 8 (number_bytes is_big 8 n) (let l = length-spelled is_big 8 n in omega arith))
 
 module _ (e : Encoding) (is_big : Bool) (line_texts : List (List ℕ)) (small : length (section_of line_texts) < 2 ^ 31)
   where
@@ -83,15 +123,16 @@ module _ (e : Encoding) (is_big : Bool) (line_texts : List (List ℕ)) (small : 
     form_is (of_line_strings place) h = rw h.0 refl
 
     text_within : (form : ℕ) (t : Text) → form ≡ the_form → Stands e.version line_texts t
-        → IsWithin (text_size t) (text_bytes is_big e form (header_text [] line_texts t))
+        → Fit (text_size t) (text_refusals e form (header_text [] line_texts t))
+        (spelled_text is_big e.format (header_text [] line_texts t))
     text_within form (in_header bytes) same h =
         rw (eq-eqb 0x08 form (form_is (in_header bytes) h ∙ sym same))
-        (bytes_within (length bytes + 1) (bytes ++ 0 ∷ [])
+        (bytes_fit (length bytes + 1) (bytes ++ 0 ∷ [])
         (let l = length-append bytes (0 ∷ []) in omega arith))
     text_within form (of_strings place) same h = absurd h
     text_within form (of_line_strings place) same h =
         rw (eq-eqb 0x1f form (form_is (of_line_strings place) h ∙ sym same))
-        (word_within is_big e.format (offset_of line_texts place)
+        (offset_fits is_big e.format (offset_of line_texts place)
         (let low = offset_within line_texts place in omega arith))
 
     -- ---- directories
@@ -104,10 +145,12 @@ module _ (e : Encoding) (is_big : Bool) (line_texts : List (List ℕ)) (small : 
     texts_within : (ts : List Text) → All (Stands e.version line_texts) ts → (form : ℕ)
         → (nat_le e.version 4 ≡ true → form ≡ 0x08)
         → (nat_le e.version 4 ≡ false → form ≡ form_in (map (header_text [] line_texts) ts))
-        → IsWithin (sum_by text_size ts) (all_bytes (text_bytes is_big e form) (map (header_text [] line_texts) ts))
-    texts_within [] all form old new = bytes_within 0 [] (omega arith)
+        → Fit (sum_by text_size ts) (flat_map (text_refusals e form) (map (header_text [] line_texts) ts))
+        (flat_map (spelled_text is_big e.format) (map (header_text [] line_texts) ts))
+    texts_within [] all form old new = bytes_fit 0 [] (omega arith)
     texts_within (t ∷ ts) all form old new =
-        all_within (header_text [] line_texts) (text_bytes is_big e form) text_size (Stands e.version line_texts)
+        all_fit (header_text [] line_texts) (text_refusals e form) (spelled_text is_big e.format) text_size
+        (Stands e.version line_texts)
         (λ x h. text_within form x (by (nat_le e.version 4) refl) h) (t ∷ ts) all
       where
         by : (b : Bool) → nat_le e.version 4 ≡ b → form ≡ the_form
@@ -123,24 +166,26 @@ module _ (e : Encoding) (is_big : Bool) (line_texts : List (List ℕ)) (small : 
         omega arith
 
     directories_within : (ts : List Text) → All (Stands e.version line_texts) ts
-        → IsWithin (31 + sum_by text_size ts) (directories_bytes is_big e (map (header_text [] line_texts) ts))
+        → Fit (31 + sum_by text_size ts) (directories_refusals e (map (header_text [] line_texts) ts))
+        (spelled_directories e is_big (map (header_text [] line_texts) ts))
     directories_within ts all = by (nat_le e.version 4) refl
       where
         ds : List Text
         ds = map (header_text [] line_texts) ts
 
-        by : (b : Bool) → nat_le e.version 4 ≡ b → IsWithin (31 + sum_by text_size ts) (directories_bytes is_big e ds)
+        by : (b : Bool) → nat_le e.version 4 ≡ b → Fit (31 + sum_by text_size ts)
+            (flat_map (text_refusals e (cond b 0x08 (form_in ds))) ds)
+            (cond b (spelled_directories_to_4 is_big e.format ds) (spelled_directories_of_5 is_big e.format ds))
         by true is =
-            rw is (joined_within (sum_by text_size ts) 1 _
+            before_fit (sum_by text_size ts) 1 _ (0 ∷ [])
             (texts_within ts all 0x08 (λ old. refl) (λ new. absurd (let clash : true ≡ false = sym is ∙ new in cc)))
-            (bytes_within 1 (0 ∷ []) (omega arith)) (omega arith))
+            (omega arith) (omega arith)
         by false is =
-            rw is (joined_within 21 (10 + sum_by text_size ts) _
-            (bytes_within 21 (spelled_formats (directory_formats (form_in ds))) (formats_few (form_in ds)))
-            (joined_within 10 (sum_by text_size ts) _
-            (bytes_within 10 (unsigned_string (length ds)) (length-unsigned (length ds)))
+            after_fit 21 (10 + sum_by text_size ts) _ (spelled_formats (directory_formats (form_in ds)))
+            (formats_few (form_in ds))
+            (after_fit 10 (sum_by text_size ts) _ (unsigned_string (length ds)) (length-unsigned (length ds))
             (texts_within ts all (form_in ds) (λ old. absurd (let clash : true ≡ false = sym old ∙ is in cc))
-            (λ new. refl)) (omega arith)) (omega arith))
+            (λ new. refl)) (omega arith)) (omega arith)
 
     -- ---- files
 
@@ -148,7 +193,11 @@ module _ (e : Encoding) (is_big : Bool) (line_texts : List (List ℕ)) (small : 
     abbrev written : File → Info → WrittenFile
     written f i = header_file [] line_texts (records_source e.version no_details) (in_header []) f i
 
-    after_path_few : (f : WrittenFile) → length (bytes_after_path f) ≤ 30
+    -- what follows its path up to version 4
+    abbrev after_path : WrittenFile → List ℕ
+    after_path f = unsigned_string f.directory ++ (unsigned_string f.timestamp ++ unsigned_string f.size)
+
+    after_path_few : (f : WrittenFile) → length (after_path f) ≤ 30
     after_path_few f =
         let a = length-unsigned f.directory in
         let b = length-unsigned f.timestamp in
@@ -157,8 +206,8 @@ module _ (e : Encoding) (is_big : Bool) (line_texts : List (List ℕ)) (small : 
         let m = length-append (unsigned_string f.directory) (unsigned_string f.timestamp ++ unsigned_string f.size) in
         omega arith
 
-    details_few : (f : WrittenFile) → length (details_bytes (details_of no_details) f) ≤ 10
-    details_few f =
+    directory_few : (f : WrittenFile) → length (unsigned_string f.directory ++ []) ≤ 10
+    directory_few f =
         let a = length-unsigned f.directory in let l = length-append (unsigned_string f.directory) [] in omega arith
 
     module _ (directories : ℕ) where
@@ -166,37 +215,45 @@ module _ (e : Encoding) (is_big : Bool) (line_texts : List (List ℕ)) (small : 
       FileIs f = FileStands e.version line_texts directories f
 
       file_to_4 : nat_le e.version 4 ≡ true → (f : File) (i : Info) → FileIs f
-          → IsWithin (file_size f) (file_bytes_to_4 is_big e (written f i))
+          → Fit (file_size f) (file_refusals e false 0x08 0x08 (written f i))
+          (spelled_file_to_4 is_big e.format (written f i))
       file_to_4 old f i h =
-          joined_within (text_size f.path) 30 _ (text_within 0x08 f.path (rw old refl) h.path)
-          (bytes_within 30 (bytes_after_path (written f i)) (after_path_few (written f i))) (omega arith)
+          both_fit (text_size f.path) 30 _ (text_within 0x08 f.path (rw old refl) h.path)
+          (bytes_fit 30 (after_path (written f i)) (after_path_few (written f i))) (omega arith)
 
       file_of_5 : (path_form source_form : ℕ) → path_form ≡ the_form → (f : File) (i : Info) → FileIs f
-          → IsWithin (file_size f) (file_bytes_of_5 is_big e (details_of no_details) path_form source_form
-          (written f i))
+          → Fit (file_size f) (file_refusals e false path_form source_form (written f i))
+          (spelled_file is_big e.format (details_of no_details) (written f i))
       file_of_5 path_form source_form same f i h =
-          joined_within (text_size f.path) 10 _ (text_within path_form f.path same h.path)
-          (joined_within 10 0 _
-          (bytes_within 10 (details_bytes (details_of no_details) (written f i)) (details_few (written f i)))
-          (bytes_within 0 [] (omega arith)) (omega arith)) (omega arith)
+          both_fit (text_size f.path) 10 _ (text_within path_form f.path same h.path)
+          (bytes_fit 10 (unsigned_string f.directory ++ []) (directory_few (written f i))) (omega arith)
 
-      files_within : (f : WrittenFile → Result (List ℕ) Error)
-          → ((x : File) (i : Info) → FileIs x → IsWithin (file_size x) (f (written x i)))
+      -- files as a header records them
+      abbrev all_written : List File → List Info → List WrittenFile
+      all_written files infos =
+          header_files [] line_texts (records_source e.version no_details) (in_header []) files infos
+
+      files_within : (refusals : WrittenFile → List Error) (spelled : WrittenFile → List ℕ)
+          → ((x : File) (i : Info) → FileIs x → Fit (file_size x) (refusals (written x i)) (spelled (written x i)))
           → (files : List File) (infos : List Info) → All FileIs files
-          → IsWithin (sum_by file_size files)
-          (all_bytes f (header_files [] line_texts (records_source e.version no_details) (in_header []) files infos))
-      files_within f each [] infos all = bytes_within 0 [] (omega arith)
-      files_within f each (x ∷ files) [] all = bytes_within _ [] (omega arith)
-      files_within f each (x ∷ files) (i ∷ infos) all =
+          → Fit (sum_by file_size files) (flat_map refusals (all_written files infos))
+          (flat_map spelled (all_written files infos))
+      files_within refusals spelled each [] infos all = bytes_fit 0 [] (omega arith)
+      files_within refusals spelled each (x ∷ files) [] all = bytes_fit _ [] (omega arith)
+      files_within refusals spelled each (x ∷ files) (i ∷ infos) all =
           let whole = sum_by-cons file_size x files in
-          joined_within (file_size x) (sum_by file_size files) _ (each x i (All-head FileIs x files all))
-          (files_within f each files infos (All-tail FileIs x files all)) (omega arith)
+          both_fit (file_size x) (sum_by file_size files) _ (each x i (All-head FileIs x files all))
+          (files_within refusals spelled each files infos (All-tail FileIs x files all)) (omega arith)
+
+      -- tables of files alone
+      abbrev files_alone : List File → List Info → Tables
+      files_alone files infos =
+          record { directories = []; files = all_written files infos; details = details_of no_details }
 
       -- the form of their paths
       paths_in : (files : List File) (infos : List Info) → All FileIs files → (f : File) (i : Info)
           → files ≡ f ∷ drop 1 files → infos ≡ i ∷ drop 1 infos
-          → form_of_paths (header_files [] line_texts (records_source e.version no_details) (in_header []) files infos)
-          ≡ the_form
+          → path_form (files_alone files infos) ≡ the_form
       paths_in [] infos all f i one two = absurd cc
       paths_in (x ∷ files) [] all f i one two = absurd cc
       paths_in (x ∷ files) (j ∷ infos) all f i one two = form_is x.path (All-head FileIs x files all).path
@@ -217,58 +274,42 @@ module _ (e : Encoding) (is_big : Bool) (line_texts : List (List ℕ)) (small : 
           in
           omega arith
 
+      -- in version 5
+      described : (files : List File) (infos : List Info) → All FileIs files → Fit (sum_by file_size files)
+          (flat_map (file_refusals e false (path_form (files_alone files infos))
+          (source_form (files_alone files infos))) (all_written files infos))
+          (flat_map (spelled_file is_big e.format (details_of no_details)) (all_written files infos))
+      described [] infos all = bytes_fit 0 [] (omega arith)
+      described (f ∷ files) [] all = bytes_fit _ [] (omega arith)
+      described (f ∷ files) (i ∷ infos) all =
+          let t = files_alone (f ∷ files) (i ∷ infos) in
+          files_within (file_refusals e false (path_form t) (source_form t))
+          (spelled_file is_big e.format (details_of no_details))
+          (λ x j h. file_of_5 (path_form t) (source_form t) (paths_in (f ∷ files) (i ∷ infos) all f i refl refl) x j h)
+          (f ∷ files) (i ∷ infos) all
+
       all_files_within : (files : List File) (infos : List Info) → All FileIs files
-          → IsWithin (51 + sum_by file_size files)
-          (files_bytes is_big e (details_of no_details)
-          (header_files [] line_texts (records_source e.version no_details) (in_header []) files infos))
+          → Fit (51 + sum_by file_size files) (files_refusals e (files_alone files infos))
+          (spelled_files e is_big (files_alone files infos))
       all_files_within files infos all = by (nat_le e.version 4) refl
         where
-          -- in version 5
-          described : nat_le e.version 4 ≡ false → (files : List File) (infos : List Info) → All FileIs files
-              → IsWithin (51 + sum_by file_size files)
-              (described_files is_big e (details_of no_details)
-              (header_files [] line_texts (records_source e.version no_details) (in_header []) files infos))
-          described new files infos all =
-              let xs = header_files [] line_texts (records_source e.version no_details) (in_header []) files infos in
-              joined_within 41 (10 + sum_by file_size files) _
-              (bytes_within 41 (spelled_formats (file_formats (details_of no_details) (form_of_paths xs)
-              (form_of_sources xs))) (file_formats_few (form_of_paths xs) (form_of_sources xs)))
-              (joined_within 10 (sum_by file_size files) _
-              (bytes_within 10 (unsigned_string (length xs)) (length-unsigned (length xs))) (each files infos all)
-              (omega arith)) (omega arith)
-            where
-              each : (files : List File) (infos : List Info) → All FileIs files
-                  → IsWithin (sum_by file_size files)
-                  (all_bytes (file_bytes_of_5 is_big e (details_of no_details)
-                  (form_of_paths (header_files [] line_texts (records_source e.version no_details) (in_header []) files
-                  infos))
-                  (form_of_sources (header_files [] line_texts (records_source e.version no_details)
-                  (in_header []) files
-                  infos)))
-                  (header_files [] line_texts (records_source e.version no_details) (in_header []) files infos))
-              each [] infos all = bytes_within 0 [] (omega arith)
-              each (f ∷ files) [] all = bytes_within _ [] (omega arith)
-              each (f ∷ files) (i ∷ infos) all =
-                  let xs =
-                  header_files [] line_texts (records_source e.version no_details) (in_header []) (f ∷ files)
-                  (i ∷ infos) in
-                  files_within
-                  (file_bytes_of_5 is_big e (details_of no_details) (form_of_paths xs) (form_of_sources xs))
-                  (λ x j h. file_of_5 (form_of_paths xs) (form_of_sources xs)
-                  (paths_in (f ∷ files) (i ∷ infos) all f i refl refl) x j h) (f ∷ files) (i ∷ infos) all
+          t : Tables
+          t = files_alone files infos
 
-          by : (b : Bool) → nat_le e.version 4 ≡ b
-              → IsWithin (51 + sum_by file_size files)
-              (cond b (join_bytes (all_bytes (file_bytes_to_4 is_big e)
-              (header_files [] line_texts (records_source e.version no_details) (in_header []) files infos))
-              (Ok (0 ∷ [])))
-              (described_files is_big e (details_of no_details)
-              (header_files [] line_texts (records_source e.version no_details) (in_header []) files infos)))
+          by : (b : Bool) → nat_le e.version 4 ≡ b → Fit (51 + sum_by file_size files)
+              (cond b (flat_map (file_refusals e false 0x08 0x08) t.files)
+              (flat_map (file_refusals e false (path_form t) (source_form t)) t.files))
+              (cond b (spelled_files_to_4 is_big e.format t) (spelled_files_of_5 is_big e.format t))
           by true old =
-              joined_within (sum_by file_size files) 1 _
-              (files_within (file_bytes_to_4 is_big e) (λ x i h. file_to_4 old x i h) files infos all)
-              (bytes_within 1 (0 ∷ []) (omega arith)) (omega arith)
-          by false new = described new files infos all
+              before_fit (sum_by file_size files) 1 _ (0 ∷ [])
+              (files_within (file_refusals e false 0x08 0x08) (spelled_file_to_4 is_big e.format)
+              (λ x i h. file_to_4 old x i h) files infos all) (omega arith) (omega arith)
+          by false new =
+              after_fit 41 (10 + sum_by file_size files) _
+              (spelled_formats (file_formats (details_of no_details) (path_form t) (source_form t)))
+              (file_formats_few (path_form t) (source_form t))
+              (after_fit 10 (sum_by file_size files) _ (unsigned_string (length t.files))
+              (length-unsigned (length t.files)) (described files infos all) (omega arith)) (omega arith)
 
 -- ---- the unit
 
@@ -321,16 +362,27 @@ module _ (e : Encoding) (is_big : Bool) (served : IsWritten e) (st : EmittedFile
       by false = omega arith
 
   header_within : IsWithin (100 + tables_size st) (header_bytes is_big (emitted_rules e) (tables_in e.version))
+  unfolding header_bytes
   header_within =
       let listed = listed_few e.version st.tables.directories in
-      joined_within 18 (82 + tables_size st) _
-      (bytes_within 18 (spelled_parameters (emitted_rules e) ++ spelled_opcodes) parameters_few)
-      (joined_within (31 + sum_by text_size (listed_directories e.version st.tables.directories))
+      let t = tables_in e.version in
+      let start = spelled_parameters (emitted_rules e) in
+      let tables : Fit (82 + tables_size st) (header_refusals e t)
+      (spelled_directories e is_big t.directories ++ spelled_files e is_big t) =
+      both_fit (31 + sum_by text_size (listed_directories e.version st.tables.directories))
       (51 + sum_by file_size st.tables.files) _
       (directories_within e is_big st.line_texts small (listed_directories e.version st.tables.directories)
       listed_stand)
       (all_files_within e is_big st.line_texts small (length st.tables.directories) st.tables.files st.tables.infos
-      files_stand) (omega arith)) (omega arith)
+      files_stand) (omega arith) in
+      let whole = after_fit 18 (82 + tables_size st) (100 + tables_size st) (start ++ spelled_opcodes) parameters_few
+      tables (omega arith) in
+      subst (λ rs. IsWithin (100 + tables_size st) (bytes_or_refusal rs (spelled_header (emitted_rules e) is_big t)))
+      (sym whole.none)
+      (bytes_within (100 + tables_size st) (spelled_header (emitted_rules e) is_big t)
+      (subst (λ l. length l ≤ 100 + tables_size st)
+      (append_assoc start spelled_opcodes (spelled_directories e is_big t.directories ++ spelled_files e is_big t))
+      whole.few))
 
   sizes_few : length (spelled_sizes e is_big) ≤ 4
   sizes_few =

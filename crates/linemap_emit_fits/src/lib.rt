@@ -4,7 +4,6 @@
 pub mod fit_laws;
 
 pub use linemap_emit_units::{
-    Encoding, EndianVec, Error, FileId, Format, LineStringTable, RunTimeEndian, SectionId,
-    UnitEmitter, Writer, unit_program, write_declarations, write_lists_header, write_program,
-    write_unit,
+    Encoding, EndianVec, Error, FileId, LineStringTable, RunTimeEndian, SectionId, UnitEmitter,
+    Writer, unit_program, write_declarations, write_lists_header, write_program, write_unit,
 };

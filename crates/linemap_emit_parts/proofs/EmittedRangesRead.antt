@@ -210,3 +210,6 @@ begins_in_bytes size r w = rw (bytes_bits size) (begin_fits size r w)
 
 pub ends_in_bytes : (size : ℕ) (r : Range) → IsWritable size r → r.end < 256 ^ size
 ends_in_bytes size r w = rw (bytes_bits size) w.ends_low
+
+-- both ends of a range
+pub ruleset range_ends = (begins_in_bytes, ends_in_bytes)

@@ -12,7 +12,6 @@ pub use Rattle.gimli_lines_header.specs.AttributeValues
 pub use Rattle.gimli_lines_header.specs.ArangeSets
 pub use Rattle.gimli_lines_header.specs.Tiling
 pub use Rattle.gimli_lines_header.specs.UnitHeaders
-pub use Rattle.gimli_lines_header.specs.UnitOffsets
 pub use Rattle.gimli_units_lists.specs.ListSections
 pub mod WriteResults
 pub mod EmittedEntries

@@ -25,7 +25,7 @@ fn write_pair(w: &mut EndianVec<RunTimeEndian>, size: u8, begin: u64, end: u64) 
 }
 
 // Writes a range.
-#[tactic(auto, using(crate::proofs::EmittedRangesRead::begins_in_bytes, crate::proofs::EmittedRangesRead::ends_in_bytes))]
+#[tactic(auto, using(crate::proofs::EmittedRangesRead::range_ends))]
 fn write_range(
     w: &mut EndianVec<RunTimeEndian>,
     encoding: Encoding,

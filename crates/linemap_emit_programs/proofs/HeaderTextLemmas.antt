@@ -36,3 +36,6 @@ text_filled version bytes line_texts (String text) held is =
     subst (λ (l : List ℕ). length l ≢ 0) (sym held.1) is.1
 text_filled version bytes line_texts (StringRef id) held is = absurd held
 text_filled version bytes line_texts (LineStringRef id) held is = tt
+
+-- what is known of a text that the header finds
+pub ruleset header_texts = (text_held, text_free, text_filled)

@@ -10,7 +10,6 @@ pub use Rattle.gimli_lines_write_laws.specs.HeaderContents
 pub use Rattle.gimli_lines_write_unit.specs.HeaderBytes
 pub use Rattle.gimli_lines_write_laws.specs.ProgramReadBack
 pub use Rattle.linemap_emit_rows.specs.FilePaths
-pub use Rattle.linemap_emit_rows.specs.UnitOffsets
 pub use Rattle.linemap_emit_rows.specs.EntryLaws
 pub use Rattle.linemap_emit_rows.specs.Contexts
 pub use Rattle.linemap_emit_rows.specs.Lines
@@ -50,8 +49,6 @@ pub use Rattle.linemap_emit_rows.specs.TableCall
 pub use Rattle.linemap_emit_rows.specs.LookupAgreement
 pub use Rattle.linemap_emit_rows.specs.EmittedRows
 pub use Rattle.linemap_emit_rows.specs.SoundSequences
-pub use Rattle.linemap_emit_rows.specs.SequenceBuilding
-pub use Rattle.linemap_emit_rows.specs.ShownPrograms
 pub mod EmittedFiles
 pub mod EmittedPrograms
 pub mod ProgramFilesSoFar

@@ -4,7 +4,7 @@
 pub mod sequences;
 pub mod unit_programs;
 
-pub use gimli_lines_write_program::{FileId, LineProgram, LineStringTable};
+pub use gimli_lines_write_program::{FileId, LineStringTable};
 pub use linemap_emit_rows::{
     Entry, TableCall, TableFunction, TableRange, TableUnit, abstract_offset, lists_start,
     write_declarations, write_lists_header, write_ranges, write_unit,

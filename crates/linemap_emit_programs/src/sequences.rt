@@ -32,7 +32,7 @@ fn row_of(files: &[FileId], begin: u64, row: &TableRow) -> LineRow
 }
 
 // Adds the rows of a sequence, and its end.
-#[tactic(auto, using(linemap_emit_rows::proofs::BuiltSequences::row_follows, linemap_emit_rows::proofs::BuiltSequences::rows_stay, linemap_emit_rows::proofs::BuiltSequences::end_follows), unfolding(linemap_emit_rows::specs::EmittedRows::AllFrom))]
+#[tactic(auto, using(linemap_emit_rows::proofs::BuiltSequences::open_sequences), unfolding(linemap_emit_rows::specs::EmittedRows::AllFrom))]
 fn push_rows(
     program: &mut LineProgram,
     files: &[FileId],
@@ -58,7 +58,7 @@ fn push_rows(
 }
 
 // Adds a sequence.
-#[tactic(auto, using(linemap_emit_rows::proofs::BuiltSequences::sequence_opens, linemap_emit_rows::proofs::BuiltSequences::sequence_built))]
+#[tactic(auto, using(linemap_emit_rows::proofs::BuiltSequences::whole_sequences))]
 fn push_sequence(
     program: &mut LineProgram,
     files: &[FileId],

@@ -38,7 +38,7 @@ impl Drop for UnitProgram {
 }
 
 // A text as the headers of a version have it.
-#[tactic(auto, using(crate::proofs::HeaderTextLemmas::text_held, crate::proofs::HeaderTextLemmas::text_free, crate::proofs::HeaderTextLemmas::text_filled))]
+#[tactic(auto, using(crate::proofs::HeaderTextLemmas::header_texts))]
 fn header_text(
     alloc: Global,
     encoding: Encoding,

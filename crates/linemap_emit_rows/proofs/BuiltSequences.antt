@@ -77,6 +77,9 @@ sequence_opens place begin rs end b idle follow = record {
       follow;
 }
 
+-- a sequence from its begin to its end
+pub ruleset whole_sequences = (sequence_opens, sequence_built)
+
 -- ---- row by row
 
 -- the first of the rows can follow
@@ -98,3 +101,6 @@ pub end_follows : (place : ℕ → ℕ) (begin end : ℕ) (b : BuilderState) →
     → can_place b.rules b.previous (end - begin) b.row.op_index ≡ true
 end_follows place begin end b is_open =
     ap (can_place b.rules b.previous (end - begin)) is_open.no_operations ∙ (and_parts _ _ is_open.rows_follow).0
+
+-- the rows of an open sequence, and its end
+pub ruleset open_sequences = (row_follows, rows_stay, end_follows)

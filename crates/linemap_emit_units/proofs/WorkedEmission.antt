@@ -14,6 +14,7 @@ use Rattle.gimli_lines_write_tables.specs.RowPieces as pieces
 use Rattle.linemap_emit_units.specs.InlinedNames as names
 use Rattle.linemap_emit_units.specs.UnitEmission as entries
 use Rattle.linemap_emit_programs.specs.EmittedFiles as files
+use Rattle.linemap_emit_programs.specs.HeaderBytes as header
 
 abbrev target : Encoding
 target = record { address_size = 8; format = Dwarf32; version = 4 }
@@ -50,8 +51,9 @@ lines_of_the_unit : table_of_a_unit.lines ≡
     66 ∷ 0 ∷ 0 ∷ 0 ∷ 4 ∷ 0 ∷ 31 ∷ 0 ∷ 0 ∷ 0 ∷ 1 ∷ 1 ∷ 1 ∷ 251 ∷ 14 ∷ 13 ∷ 0 ∷ 1 ∷ 1 ∷ 1 ∷ 1 ∷ 0 ∷ 0 ∷ 0 ∷ 1 ∷ 0 ∷
     0 ∷ 1 ∷ 115 ∷ 114 ∷ 99 ∷ 0 ∷ 0 ∷ 97 ∷ 46 ∷ 99 ∷ 0 ∷ 1 ∷ 0 ∷ 0 ∷ 0 ∷ 0 ∷ 9 ∷ 2 ∷ 0 ∷ 16 ∷ 0 ∷ 0 ∷ 0 ∷ 0 ∷ 0 ∷
     0 ∷ 5 ∷ 1 ∷ 22 ∷ 5 ∷ 2 ∷ 3 ∷ 15 ∷ 242 ∷ 5 ∷ 1 ∷ 3 ∷ 115 ∷ 242 ∷ 2 ∷ 16 ∷ 0 ∷ 1 ∷ 1 ∷ []
-unfolding with_emitted_units files.with_table_files files.table_file_ids spelling.unsigned_within
-    spelling.signed_within pieces.row_piece pieces.flags pieces.changes pieces.moves pieces.end_piece
+unfolding with_emitted_units files.with_table_files files.table_file_ids header.header_bytes
+    spelling.unsigned_within spelling.signed_within pieces.row_piece pieces.flags pieces.changes pieces.moves
+    pieces.end_piece
 lines_of_the_unit = refl
 
 -- a list for the unit, and one for its function
@@ -116,7 +118,7 @@ second_unit_after_the_first : (emitted_table target false (a_unit ∷ b_unit ∷
     (CompileUnit 0 4 0 0 ∷ Function false 7 32 ∷ EndOfChildren ∷ []) ∷ (CompileUnit 12 4 70 64 ∷ EndOfChildren ∷ [])
     ∷ []
 unfolding with_emitted_units files.with_table_files files.table_file_ids entries.with_calls names.call_names
-    spelling.unsigned_within spelling.signed_within pieces.row_piece
+    header.header_bytes spelling.unsigned_within spelling.signed_within pieces.row_piece
     pieces.flags pieces.changes pieces.moves pieces.end_piece
 second_unit_after_the_first = refl
 

@@ -31,7 +31,6 @@ pub use Rattle.gimli_lines_write_tables.specs.Format
 pub use Rattle.gimli_lines_write_tables.specs.SectionId
 pub use Rattle.gimli_lines_write_tables.specs.Error
 pub use Rattle.gimli_lines_write_tables.specs.ByteOrders
-pub use Rattle.gimli_lines_write_tables.specs.RunTimeEndian
 pub use Rattle.gimli_lines_write_tables.specs.SectionReads
 pub use Rattle.gimli_lines_write_tables.specs.Range
 pub use Rattle.linemap_emit_programs.specs.Attributes
@@ -61,7 +60,6 @@ pub use Rattle.linemap_emit_programs.specs.AttributeValues
 pub use Rattle.linemap_emit_programs.specs.ArangeSets
 pub use Rattle.linemap_emit_programs.specs.Tiling
 pub use Rattle.linemap_emit_programs.specs.UnitHeaders
-pub use Rattle.linemap_emit_programs.specs.UnitOffsets
 pub use Rattle.linemap_emit_programs.specs.ListSections
 pub use Rattle.linemap_emit_programs.specs.EmittedEntries
 pub use Rattle.linemap_emit_programs.specs.EmittedEntryLaws

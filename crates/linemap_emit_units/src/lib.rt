@@ -5,11 +5,9 @@ mod file_numbers;
 pub mod inlined_names;
 pub mod unit_emitter;
 
-pub use gimli_lines_write_tables::{
-    Encoding, EndianVec, Error, Format, RunTimeEndian, SectionId, Writer,
-};
+pub use gimli_lines_write_tables::{Encoding, EndianVec, Error, RunTimeEndian, SectionId, Writer};
 pub use linemap_emit_programs::{
-    FileId, LineProgram, LineStringTable, UnitProgram, unit_program, write_declarations,
-    write_lists_header, write_program, write_unit,
+    FileId, LineStringTable, unit_program, write_declarations, write_lists_header, write_program,
+    write_unit,
 };
 pub use unit_emitter::UnitEmitter;

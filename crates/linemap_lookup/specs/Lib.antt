@@ -11,7 +11,6 @@ pub use Rattle.addr2line_context.specs.Lookups
 pub use Rattle.addr2line_context.specs.Pairs
 pub use Rattle.addr2line_context.specs.Repetition
 pub use Rattle.addr2line_context.specs.Results
-pub use Rattle.addr2line_context.specs.UnitFacts
 pub use Rattle.addr2line_context.specs.View
 pub use Rattle.addr2line_split.specs.ElfSymbols
 pub use Rattle.addr2line_split.specs.LoadError
@@ -37,3 +36,10 @@ pub use Rattle.addr2line_split.specs.FileReads
 pub use Rattle.addr2line_split.specs.LoadedParts
 pub use Rattle.addr2line_split.specs.NamedFiles
 pub use Rattle.addr2line_split.specs.declared.map_source.SplitFile
+pub use Rattle.addr2line_debug_files.specs.Searches
+pub use Rattle.addr2line_debug_files.specs.declared.debug_files.DebugFiles
+pub use Rattle.addr2line_debug_files.specs.declared.files.NamedFile
+pub use Rattle.addr2line_loader.specs.DecompressError
+pub use Rattle.addr2line_loader.specs.DecompressResults
+pub use Rattle.addr2line_loader.specs.DecompressedFiles
+pub use Rattle.addr2line_loader.specs.SymbolFiles

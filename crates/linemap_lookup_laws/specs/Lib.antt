@@ -18,3 +18,11 @@ pub use Rattle.linemap_lookup.specs.LoadError
 pub use Rattle.linemap_lookup.specs.LoadErrors
 pub use Rattle.linemap_lookup.specs.NamedFiles
 pub use Rattle.linemap_lookup.specs.SplitFile
+pub use Rattle.linemap_lookup.specs.DebugFiles
+pub use Rattle.linemap_lookup.specs.DecompressError
+pub use Rattle.linemap_lookup.specs.DecompressResults
+pub use Rattle.linemap_lookup.specs.DecompressedFiles
+pub use Rattle.linemap_lookup.specs.FoundFiles
+pub use Rattle.linemap_lookup.specs.NamedFile
+pub use Rattle.linemap_lookup.specs.Searches
+pub use Rattle.linemap_lookup.specs.SymbolFiles

@@ -14,7 +14,7 @@ mod parses;
 pub mod table_laws;
 mod tokens;
 
-pub use addr2line_context::{DwLang, DwarfFileType, DwoId, Error, OwnedLocation, OwnedStretch};
+pub use addr2line_context::{DwarfFileType, Error, OwnedLocation, OwnedStretch};
 pub use answer::{Answer, OwnedFrame, OwnedName, OwnedUnit};
 pub use call::Call;
 pub use history::replay;

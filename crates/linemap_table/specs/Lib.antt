@@ -10,10 +10,8 @@ pub use Rattle.linemap_check.specs.TableParts
 pub use Rattle.linemap_check.specs.TableRangeLaws
 pub use Rattle.linemap_check.specs.TableViews
 pub use Rattle.linemap_check.specs.TableWeight
-pub use Rattle.linemap_check.specs.Rule
 pub use Rattle.linemap_check.specs.TableFile
 pub use Rattle.linemap_check.specs.TableUnit
-pub use Rattle.gimli_core_base.specs.declared.common.Encoding
 pub use Rattle.gimli_core_base.specs.declared.common.Format
 pub mod TargetEncodings
 pub mod EmissionTargets

@@ -8,9 +8,7 @@ pub mod table_contexts;
 pub mod word_laws;
 pub mod word_lines;
 
-pub use addr2line_context::{
-    Context, Dwarf, EndianSlice, Error, Format, Reader, RunTimeEndian, SectionId,
-};
+pub use addr2line_context::{Context, Dwarf, EndianSlice, Error, Reader, RunTimeEndian, SectionId};
 pub use engine::ask;
 pub use linemap_emit::{
     EmitError, Rule, Sections, Table, TableCall, TableError, TableFile, TableFunction, TableRange,

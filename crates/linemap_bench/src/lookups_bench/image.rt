@@ -3,24 +3,11 @@
 use crate::lookups_bench::fault::Fault;
 use addr2line_context::{Dwarf, EndianBytes, EndianSlice, Error, Reader, RunTimeEndian, SectionId};
 use addr2line_elf::Elf;
+use addr2line_elf::debug::READ;
 use bytes::Bytes;
 use std::alloc::Global;
 
 type Shared = EndianBytes<RunTimeEndian>;
-
-// The sections that lookups read.
-const READ: [SectionId; 10] = [
-    SectionId::DebugAbbrev,
-    SectionId::DebugAddr,
-    SectionId::DebugAranges,
-    SectionId::DebugInfo,
-    SectionId::DebugLine,
-    SectionId::DebugLineStr,
-    SectionId::DebugRanges,
-    SectionId::DebugRngLists,
-    SectionId::DebugStr,
-    SectionId::DebugStrOffsets,
-];
 
 /// The sections of an image that lookups read.
 #[derive(Drop)]

@@ -45,8 +45,8 @@ pub enum Series {
     AllTwice,
     /// Those that need lines.
     Lines,
-    /// Its frames, the place of the address 0, an answer to a load that none asked for, and its
-    /// frames again.
+    /// Its frames, the place of 0xfff, an answer to a load that none asked for, and its frames
+    /// again.
     NoPreload,
 }
 

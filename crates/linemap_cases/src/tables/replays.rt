@@ -12,6 +12,9 @@ use linemap_text::{Context, Sections, dwarf_of};
 use std::alloc::{AllocError, Global};
 use std::str;
 
+// An address before all units of the tables.
+const BELOW_ALL: u64 = 0xfff;
+
 type Slice<'a> = EndianSlice<'a, RunTimeEndian>;
 
 /// Adds the answers to calls about an address of the table in a text.
@@ -67,11 +70,11 @@ fn line_calls_about(alloc: Global, address: u64) -> Result<Vec<Call>, AllocError
     Ok(calls)
 }
 
-// The frames of an address, the place of the address 0, an answer to a load, and the frames.
+// The frames of an address, the place of 0xfff, an answer to a load, and the frames.
 fn answered_calls_about(alloc: Global, address: u64) -> Result<Vec<Call>, AllocError> {
     let mut calls = Vec::new(alloc);
     calls.push(Call::Frames(address, Vec::new(alloc)))?;
-    calls.push(Call::Location(0))?;
+    calls.push(Call::Location(BELOW_ALL))?;
     calls.push(Call::Answer(0, 0))?;
     calls.push(Call::Frames(address, Vec::new(alloc)))?;
     Ok(calls)

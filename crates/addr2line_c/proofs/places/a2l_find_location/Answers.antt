@@ -9,7 +9,7 @@ use Rattle.addr2line_c.proofs.places.a2l_find_location.Goals as goal
 
 pub returns-in-Err-clause-free : goal.returns-in-Err-clause-free
 returns-in-Err-clause-free c = λ opened keeps is.
-    let same = c.file_mut.ensures.file ∙ ap (λ h. h.file) c.state-opened.ensures.same in
+    let same = ap (λ h. h.file) c.state-opened.ensures.same in
     let number = to_z-of_z w32 c.error_number.result (search rules) ∙ c.error_number.ensures in
     other_number c.in-Err.error (c.in-Err.ensures.free
     (subst (λ (f : OpenFile). KeepsAsked (AsksForPlace (answered_context f.loader.file) c.args.address) f.loader.units)

@@ -9,7 +9,7 @@ returns-in-Some-clause-load c =
     let lookup = c.in-Some.ensures.lookup in
     λ ok. writes (slice_get loads c.args.number) load _
     (at_number loads c.as_slice-loads.result.now c.args.number load
-    (c.as_slice-loads.ensures.value ∙ ap (λ f. f.loads.items) c.file_mut.ensures.file
+    (c.as_slice-loads.ensures.value ∙ ap (λ f. f.loads.items) c.file.ensures.file
     ∙ ap (λ h. h.file.loads.items) c.state-opened.ensures.same) lookup.1 lookup.3.0)
     c.of.ensures
 
@@ -18,5 +18,5 @@ returns-in-None-clause-number c =
     let loads = c.args.handle.now.file.loads.items in
     λ opened. none_number (slice_get loads c.args.number)
     (past_them loads c.as_slice-loads.result.now c.args.number
-    (c.as_slice-loads.ensures.value ∙ ap (λ f. f.loads.items) c.file_mut.ensures.file
+    (c.as_slice-loads.ensures.value ∙ ap (λ f. f.loads.items) c.file.ensures.file
     ∙ ap (λ h. h.file.loads.items) c.state-opened.ensures.same) c.in-None.ensures.lookup.3)

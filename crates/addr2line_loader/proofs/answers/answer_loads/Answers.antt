@@ -86,7 +86,8 @@ returns-in_err-decided-clause-loads g c =
     let p = err_from_is_err_and c.from_residual.result c.from_residual.ensures.1 in
     let asked : FirstAnswers → LoadState g.row.S.Denot = λ x. record { answers = x; source = c.loop-decided.source } in
     rw (p.1, p.2) (stops_before g.S.SplitSource.answers c.args.probe c.args.context.now.value.plain
-    (record { answers = c.args.context.now.value.answers; source = c.args.source.now }) c.settle_frames.new.context.units _ _
+    (record { answers = c.args.context.now.value.answers; source = c.args.source.now })
+    c.settle_frames.new.context.units _ _
     (ap asked (ap (λ (x : AnsweredContext). x.answers) c.settle_frames.ensures.after.value))
     c.loop-decided.invariant.1 _
     c.in_err-decided.ensures.settles)
@@ -112,7 +113,8 @@ returns-in_err-decided-clause-alone g c = λ done.
 pub returns-in_err-answer_next-in-None-clause-loads : goal.returns-in_err-answer_next-in-None-clause-loads
 returns-in_err-answer_next-in-None-clause-loads g c =
     let p =
-    err_from_is_err_and c.from_residual-in_err-answer_next-in-None.result c.from_residual-in_err-answer_next-in-None.ensures.1 in
+    err_from_is_err_and c.from_residual-in_err-answer_next-in-None.result
+    c.from_residual-in_err-answer_next-in-None.ensures.1 in
     let asked : FirstAnswers → LoadState g.row.S.Denot = λ x. record { answers = x; source = c.loop-decided.source } in
     rw (p.1, p.2) (stops_at g.S.SplitSource.answers c.args.probe c.args.context.now.value.plain
     (record { answers = c.args.context.now.value.answers; source = c.args.source.now })

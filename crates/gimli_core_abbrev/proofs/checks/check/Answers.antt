@@ -4,14 +4,15 @@ use Rattle.gimli_core_readers.specs.Parsers.{value_of}
 use Rattle.gimli_core_readers.specs.Repetition.{listing_in}
 use Rattle.gimli_core_readers.specs.Error.{Error}
 use Rattle.gimli_core_readers.proofs.RefusedCalls.{returns_refused}
+use Rattle.gimli_core_readers.specs.Results.{refusal_of}
 use Rattle.gimli_core_abbrev.specs.TableParsing.{declaration, table}
-use Rattle.gimli_core_abbrev.specs.TableChecks.{can_read, IsInOrder}
+use Rattle.gimli_core_abbrev.specs.TableChecks.{IsInOrder}
 use Rattle.gimli_core_abbrev.proofs.ExactRefusals.{exactly_refused}
 use Rattle.gimli_core_abbrev.proofs.CheckedTables.{checked_ended, checked_counted, checked_refused, checked_unordered}
 use Rattle.gimli_core_abbrev.proofs.checks.check.Goals as goal
 
 abbrev reads : View → Result (Unit {0}) Error
-reads v = can_read (value_of (table v))
+reads v = refusal_of (value_of (table v))
 
 pub returns-in_err-skip_in_order-clause-value : goal.returns-in_err-skip_in_order-clause-value
 returns-in_err-skip_in_order-clause-value g c =

@@ -1,4 +1,4 @@
--- What is read of a header by itself is never refused for want of memory.
+-- What is read of a header by itself is never out of memory.
 use Rattle.gimli_core_readers.proofs.MemoryLemmas.{free-refused, free-initial_length, free-set_encoding}
 use Rattle.gimli_core_readers.proofs.address_sets.parse_header.Goals as goal
 

@@ -43,7 +43,8 @@ returns g c = (
         c.self.inside.context.units c.answer_loads.new.context c.answer_loads.new.source
         c.answer_loads.ensures.plain c.answer_loads.ensures.units
         c.answer_loads.ensures.alone c.in_ok-decided.decided c.in_ok-decided.ensures.loads
-        (c.in_ok-decided.ensures.asked (found_row _)) c.lend_frames.result c.lend_frames.ensures c.args.self.now c.self.view_is,
+        (c.in_ok-decided.ensures.asked (found_row _)) c.lend_frames.result c.lend_frames.ensures
+        c.args.self.now c.self.view_is,
   ),
   record { after = tt },
 )

@@ -1,7 +1,8 @@
-use Rattle.std.proofs.Common.{◌≡◌, ◌≢◌, Result, Err, sym, ap}
+use Rattle.std.proofs.Common.{◌≡◌, ◌≢◌, inr, Result, Err, refl, sym, ap}
 use Rattle.std.specs.Option.{is_some}
 use Rattle.addr2line_decompress.specs.declared.error.DecompressError.{DecompressError}
 use Rattle.addr2line_decompress.specs.declared.error.DecompressError.TheVariants.{Memory, Image}
+use Rattle.addr2line_split.specs.FileReads.{IsRead}
 use Rattle.addr2line_split.specs.LoadError.{LoadError}
 use Rattle.addr2line_split.specs.LoadError.TheVariants as load
 use Rattle.addr2line_loader.specs.DecompressedFiles.{refusal_of}
@@ -19,7 +20,7 @@ refused_read e r is ne = ap refused (sym is)
 
 pub returns-in-Err : goal.returns-in-Err
 returns-in-Err g c =
-    let other = any_read (is_some c.args.sup_path) in
+    let other = any_read IsRead (inr refl) (is_some c.args.sup_path) in
     record {
       image = Err c.in-Err.error;
       supplement = other.0;

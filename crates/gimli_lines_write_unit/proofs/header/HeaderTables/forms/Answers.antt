@@ -1,7 +1,8 @@
 use Rattle.std.proofs.Common.{◌≡◌, ◌<◌, map, sym, ap, subst, ◌∙◌}
 use Rattle.gimli_lines_write_tables.specs.FileTables.{text_of, file_of, info_of}
 use Rattle.gimli_lines_write_unit.specs.HeaderContents.{VersionedTables, header_files, records_source}
-use Rattle.gimli_lines_write_unit.specs.HeaderBytes.{form_of_paths, form_of_sources}
+use Rattle.gimli_lines_write_spec.specs.HeaderTexts.{form_in}
+use Rattle.gimli_lines_write_spec.specs.EntryFields.{WrittenFile}
 use Rattle.gimli_lines_write_unit.proofs.KnownTexts.{lengths_of_views}
 use Rattle.gimli_lines_write_unit.proofs.FileLists.{listed_files, sources_of_5}
 use Rattle.gimli_lines_write_unit.proofs.header.HeaderTables.forms.Goals as goal
@@ -25,9 +26,10 @@ listed c =
 
 pub returns-clause-path : goal.returns-clause-path
 returns-clause-path c =
-    c.first_forms.ensures.path c.self.inside.strings.now c.self.inside.line_strings.now ∙ ap form_of_paths (listed c)
+    c.first_forms.ensures.path c.self.inside.strings.now c.self.inside.line_strings.now
+    ∙ ap (λ fs. form_in (map (λ (f : WrittenFile). f.path) fs)) (listed c)
 
 pub returns-clause-source : goal.returns-clause-source
 returns-clause-source c =
     c.first_forms.ensures.source c.self.inside.strings.now c.self.inside.line_strings.now
-    ∙ ap form_of_sources (listed c)
+    ∙ ap (λ fs. form_in (map (λ (f : WrittenFile). f.source) fs)) (listed c)

@@ -4,7 +4,8 @@ use Rattle.gimli_lines_write_tables.specs.EntryBytes.{Continues}
 use Rattle.gimli_lines_write_tables.specs.FileTables.{text_of}
 use Rattle.gimli_lines_write_unit.specs.HeaderContents.{VersionedTables, header_text, listed_directories}
 use Rattle.gimli_lines_write_tables.specs.LineStrings.{IsKnown}
-use Rattle.gimli_lines_write_unit.specs.HeaderBytes.{directories_bytes}
+use Rattle.gimli_lines_write_spec.specs.HeaderSpelling.{spelled_directories}
+use Rattle.gimli_lines_write_unit.specs.HeaderBytes.{bytes_or_refusal, directories_refusals}
 use Rattle.gimli_lines_write_unit.proofs.KnownTexts.{told_known, told_written}
 use Rattle.gimli_lines_write_unit.proofs.header.HeaderTables.write_directories.Goals as goal
 
@@ -20,7 +21,8 @@ pub returns : goal.returns
 returns g c =
     subst (λ ds. Continues c.write_directories.result (g.W.Writer.contents c.args.w.now)
     (g.W.Writer.contents c.write_directories.new.w)
-    (directories_bytes (g.W.Writer.contents c.args.w.now).is_big c.args.encoding ds))
+    (bytes_or_refusal (directories_refusals c.args.encoding ds)
+    (spelled_directories c.args.encoding (g.W.Writer.contents c.args.w.now).is_big ds)))
     (ap (map (λ t. header_text c.self.inside.strings.now c.self.inside.line_strings.now (text_of t)))
     c.listed_directories-directories.ensures
     ∙ told_written c.self.inside.strings.now c.self.inside.line_strings.now c.args.encoding.version

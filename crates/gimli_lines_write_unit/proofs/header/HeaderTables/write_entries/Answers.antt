@@ -4,7 +4,8 @@ use Rattle.gimli_lines_write_tables.specs.EntryBytes.{Continues}
 use Rattle.gimli_lines_write_tables.specs.FileTables.{File, Info, text_of, file_of, info_of}
 use Rattle.gimli_lines_write_unit.specs.HeaderContents.{VersionedTables, records_source, writes_sources, details_of}
 use Rattle.gimli_lines_write_tables.specs.LineStrings.{IsKnown}
-use Rattle.gimli_lines_write_unit.specs.HeaderBytes.{all_bytes, file_bytes_of_5}
+use Rattle.gimli_lines_write_spec.specs.EntryFields.{spelled_file}
+use Rattle.gimli_lines_write_unit.specs.HeaderBytes.{all_or_refusal, file_refusals}
 use Rattle.gimli_lines_write_unit.proofs.KnownTexts.{All-view, lengths_of_views}
 use Rattle.gimli_lines_write_unit.proofs.FileLists.{listed_files}
 use Rattle.gimli_lines_write_unit.proofs.header.HeaderTables.write_entries.Goals as goal
@@ -33,8 +34,8 @@ pub returns : goal.returns
 returns g c =
     subst (λ fs. Continues c.write_files.result (g.W.Writer.contents c.args.w.now)
     (g.W.Writer.contents c.write_files.new.w)
-    (all_bytes (file_bytes_of_5 (g.W.Writer.contents c.args.w.now).is_big c.args.encoding (details_of c.args.details)
-    c.args.forms.path.0 c.args.forms.source.0) fs))
+    (all_or_refusal (file_refusals c.args.encoding c.args.details.has_source c.args.forms.path.0 c.args.forms.source.0)
+    (spelled_file (g.W.Writer.contents c.args.w.now).is_big c.args.encoding.format (details_of c.args.details)) fs))
     (listed_files c.self.inside.strings.now c.self.inside.line_strings.now c.args.details.has_source
     (records_source c.self.inside.tables.now.version c.self.inside.details) (text_of c.self.inside.empty.now)
     c.files-files.result.now c.infos-infos.result.now c.self.inside.tables.now.files c.self.inside.tables.now.infos
