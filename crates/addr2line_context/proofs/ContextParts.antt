@@ -1,5 +1,5 @@
 -- A context from its parts.
-use Rattle.std.proofs.Common.{◌≡◌, ◌≢◌, ℕ, List, map, Option, None, Result, Ok, Err, refl, sym, ap, ◌∙◌, subst}
+use Rattle.std.proofs.Common.{◌≡◌, ◌≢◌, ℕ, ◌+◌, List, map, Option, None, Result, Ok, Err, sym, ap, ◌∙◌, subst}
 use Rattle.std.proofs.lemmas.Simd.{map-map}
 use Rattle.addr2line_lookups.specs.Error.{Error}
 use Rattle.addr2line_lookups.specs.Error.TheVariants.{Memory}
@@ -16,12 +16,12 @@ use Rattle.addr2line_lookups.proofs.NewUnits.{unit_of, units_alone, units_of_new
 use Rattle.addr2line_lookups.proofs.ContextOfUnits.{context_of_units}
 use Rattle.addr2line_context.specs.AnsweredContexts.{AnsweredContext}
 use Rattle.addr2line_context.specs.KeptContexts.{ResolvedContext}
-use Rattle.addr2line_context.specs.ContextCosts.{AfterLookup, AfterStep, AsksForNext, AsksForStretches}
+use Rattle.addr2line_context.specs.ContextCosts.{AfterLookup, AfterStep, AsksForNext, AsksForStretches, stretch_looks}
 use Rattle.addr2line_lookups.specs.ContextUnits.{ordered_ranges}
 use Rattle.addr2line_lookups.specs.KeptUnits.{KeepsAsked, ReadsAsked, ReadsNoLines, ReadsNoFunctions}
-use Rattle.addr2line_lookups.specs.RangeWalks.{AsksForNextStretch, StaysOnItsWay}
+use Rattle.addr2line_lookups.specs.RangeWalks.{AsksForNextStretch, StaysOnItsWay, walk_looks}
 use Rattle.addr2line_lookups.specs.declared.range_walk.RangeWalk.{RangeWalk}
-use Rattle.addr2line_lookups.specs.LookupCosts.{AtMostLooks}
+use Rattle.addr2line_lookups.specs.LookupCosts.{AtMostLooks, TakesLooks}
 use Rattle.addr2line_lookups.specs.AnsweredUnits.{answers_of}
 use Rattle.addr2line_lookups.specs.KeptCalls.{facts_of}
 use Rattle.addr2line_lookups.specs.OrderedUnits.{AreInOrder}
@@ -153,18 +153,21 @@ module _ (file : DwarfFile) (us : List ResolvedUnit) (supplement_units : List Un
 
   -- a step of a walk between two ends
   pub after_step : {A : Type 0} (result : Result A Error) (old new : RangeWalk) (vs : List ResolvedUnit)
-      → map value_of_unit vs ≡ map value_of_unit us → AtMostLooks 0 us vs
+      → map value_of_unit vs ≡ map value_of_unit us
+      → TakesLooks (walk_looks (map plain_unit us) (ordered_ranges (map plain_unit us)) old + 3)
+      (walk_looks (map plain_unit us) (ordered_ranges (map plain_unit us)) new) us vs
       → (result ≢ Err Memory → KeepsAsked (AsksForNextStretch (map plain_unit us) old) vs)
       → ReadsAsked (AsksForNextStretch (map plain_unit us) old) us vs → ReadsNoFunctions us vs
       → StaysOnItsWay (ordered_ranges (map plain_unit us)) old new
       → AfterStep result old new c (resolved_with file vs supplement_units)
   after_step result old new vs same looks asked reads none way =
-      let after = after_lookup 0 0 vs refl same looks in
+      let takes : ResolvedContext → Type 0 =
+      λ x. TakesLooks (stretch_looks x.value old + 3) (stretch_looks x.value new) x.units vs in
       let on_way : AnsweredContext → Type 0 =
       λ x. (n : ℕ) → AsksForStretches x new n → AsksForStretches x old n in
       record {
-        value = after.value;
-        cost = after.cost;
+        value = same_context file us vs supplement_units c.value same value_is;
+        cost = subst takes is looks;
         asked = λ answered. subst (λ x. KeepsAsked (AsksForNext x old) vs) value_is (asked answered);
         reads = subst (λ (x : ResolvedContext). ReadsAsked (AsksForNext x.value old) x.units vs) is reads;
         functions = functions_since vs none;

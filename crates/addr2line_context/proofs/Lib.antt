@@ -1,3 +1,4 @@
+pub use Rattle.addr2line_lookups.proofs.RangeUnits
 mod ContextParts
 mod NewContexts
 mod ContextLoads

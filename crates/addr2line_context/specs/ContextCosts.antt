@@ -1,5 +1,5 @@
 -- How many looks at what is kept lookups of a context take, and what they leave of it.
-use Rattle.std.specs.Prelude.{◌≡◌, ◌≢◌, ℕ, List, [], ◌∷◌, map, Option, None, Result, Err}
+use Rattle.std.specs.Prelude.{◌≡◌, ◌≢◌, ℕ, ◌+◌, List, [], ◌∷◌, map, Option, None, Result, Err}
 use Rattle.addr2line_lookups.specs.Error.{Error}
 use Rattle.addr2line_lookups.specs.Error.TheVariants.{Memory}
 use Rattle.addr2line_lookups.specs.DwarfFiles.{DwarfFile}
@@ -12,9 +12,9 @@ use Rattle.addr2line_lookups.specs.NumberedRanges.{numbered_range, overlapping_r
 use Rattle.addr2line_lookups.specs.ContextUnits.{unit_places, ordered_ranges}
 use Rattle.addr2line_lookups.specs.ResolvedUnits.{AnsweredUnit, ResolvedUnit}
 use Rattle.addr2line_lookups.specs.KeptUnits.{AsksAmong, KeepsAsked, ReadsAsked, ReadsAskedFunctions, ReadsNoFunctions, IsUnitOf}
-use Rattle.addr2line_lookups.specs.RangeWalks.{ComesTo, AsksForStretch}
+use Rattle.addr2line_lookups.specs.RangeWalks.{ComesTo, AsksForStretch, looks_from, walk_looks}
 use Rattle.addr2line_lookups.specs.declared.range_walk.RangeWalk.{RangeWalk}
-use Rattle.addr2line_lookups.specs.LookupCosts.{AtMostLooks, row_looks, frame_search_looks, unit_search_looks}
+use Rattle.addr2line_lookups.specs.LookupCosts.{AtMostLooks, TakesLooks, row_looks, frame_search_looks, unit_search_looks}
 use Rattle.addr2line_lookups.specs.PassedUnits.{AsksFramesAmong, AsksUnitAmong, KeepsAskedFunctions}
 use Rattle.addr2line_context.specs.AnsweredContexts.{AnsweredContext}
 use Rattle.addr2line_context.specs.KeptContexts.{ResolvedContext}
@@ -54,6 +54,18 @@ frame_looks c a =
 abbrev pub unit_looks : AnsweredContext → ℕ → ℕ
 unit_looks c a = unit_search_looks (known_units c.plain) (answered_units c) a (ranges_over c a)
 
+-- Those that are left to a walk between two ends: for each sequence that is left of the unit that it
+-- is in a search among its rows and five looks, and three looks at a row; for each range after it
+-- the same of all sequences of its unit, and a search among these.
+abbrev pub stretch_looks : AnsweredContext → RangeWalk → ℕ
+stretch_looks c w =
+    walk_looks c.plain.context.units (ordered_ranges c.plain.context.units) w
+
+-- those before its first stretch: for all ranges between the ends
+abbrev pub looks_between : AnsweredContext → ℕ → ℕ → ℕ
+looks_between c low high =
+    looks_from c.plain.context.units low high (ordered_ranges c.plain.context.units) 0
+
 -- ---- what a lookup leaves
 
 -- The lookup of the place of an address asks the unit of a number: one with a range over it, no
@@ -70,6 +82,12 @@ AsksForFrames c a = AsksFramesAmong (known_units c.plain) (answered_units c) a (
 -- later than the first that is the unit of the address, or whose load needs an answer.
 abbrev pub AsksForUnit : AnsweredContext → ℕ → ℕ → Type 0
 AsksForUnit c a = AsksUnitAmong (known_units c.plain) (answered_units c) a (ranges_over c a)
+
+-- The lookup of the stretches between two ends asks the unit of a number: one with a range between
+-- them.
+abbrev pub AsksForRange : AnsweredContext → ℕ → ℕ → ℕ → Type 0
+AsksForRange c low high =
+    IsUnitOf (overlapping_ranges low high (ordered_ranges c.plain.context.units))
 
 -- a search for what an address has: the units that it asks, and the looks at what is kept of them
 pub record Search : Type 1 where
@@ -100,11 +118,11 @@ StepAsksOnItsWay =
     (c : AnsweredContext) (w : RangeWalk) (number : ℕ) → AsksForNext c w number
     → AsksForStretches c w number
 
--- a walk asks no units but those with a range between two ends
-abbrev pub AsksBetween : AnsweredContext → ℕ → ℕ → RangeWalk → Type 0
-AsksBetween c low high w =
-    (number : ℕ) → AsksForStretches c w number
-    → IsUnitOf (overlapping_ranges low high (ordered_ranges c.plain.context.units)) number
+-- A walk between two ends asks no units but those with a range between them, and may take as many
+-- looks as these need.
+pub record GoesBetween (c : AnsweredContext) (low high : ℕ) (w : RangeWalk) : Type 0 where
+  pub asks : (number : ℕ) → AsksForStretches c w number → AsksForRange c low high number
+  pub looks : stretch_looks c w ≡ looks_between c low high
 
 -- The context's value is what it was. There were no more than n looks at what is kept. Lines,
 -- functions and calls that were kept are kept still, so that no line number program is run again.
@@ -132,12 +150,14 @@ pub record AfterReading {A : Type 0} (asks : ℕ → Type 0) (n : ℕ) (result :
   pub reads : ReadsAsked asks old.units new.units
   pub functions : ReadsNoFunctions old.units new.units
 
--- The same after a step with this result of a walk between two ends. Later the walk asks no units
--- but those that it might still ask before the step.
+-- The same after a step with this result of a walk between two ends. Its looks, and those that are
+-- left to the walk after it, are no more than three and those that were left before it. Later the
+-- walk asks no units but those that it might still ask before the step.
 pub record AfterStep {A : Type 0} (result : Result A Error) (old_walk new_walk : RangeWalk)
     (old new : ResolvedContext) : Type 0 where
   pub value : new.value ≡ old.value
-  pub cost : AtMostLooks 0 old.units new.units
+  pub cost : TakesLooks (stretch_looks old.value old_walk + 3) (stretch_looks old.value new_walk)
+      old.units new.units
   pub asked : result ≢ Err Memory → KeepsAsked (AsksForNext old.value old_walk) new.units
   pub reads : ReadsAsked (AsksForNext old.value old_walk) old.units new.units
   pub functions : ReadsNoFunctions old.units new.units

@@ -20,7 +20,7 @@ ghost use Rattle.addr2line_lookups.specs.Histories.{functions_or_refusal, calls_
 ghost use Rattle.addr2line_lookups.specs.ContextNames.{naming_in};
 ghost use Rattle.addr2line_lookups.specs.Preloads.{load_at, load_of_item};
 ghost use Rattle.addr2line_context.specs.AnsweredContexts.{HasNoAnswers};
-ghost use Rattle.addr2line_context.specs.ContextCosts.{location_looks, AsksForPlace, frame_search, unit_search, AsksForNext, AsksBetween, AfterLookup, AfterSearch, AfterReading, AfterStep};
+ghost use Rattle.addr2line_context.specs.ContextCosts.{location_looks, AsksForPlace, frame_search, unit_search, AsksForNext, GoesBetween, AfterLookup, AfterSearch, AfterReading, AfterStep};
 ghost use Rattle.addr2line_context.specs.ContextParses.{ParsesOrNoMemory};
 ghost use Rattle.addr2line_context.specs.LocationRanges.{left_in};
 ghost use Rattle.addr2line_context.specs.RangeItems.{stretch_of_item};
@@ -206,8 +206,8 @@ impl<R: Reader> Context<R> {
         ensures stretches { ReturnsAs (λ i. left_in i.context.now i.walk) result
             (Ok (stretches self.old.value.plain.context probe_low probe_high)) }
         ensures context { IfOk result (λ i. i.context.now ≡ self.old) }
-        ensures asks { IfOk result
-            (λ i. AsksBetween self.old.value probe_low probe_high i.walk) }
+        ensures between { IfOk result
+            (λ i. GoesBetween self.old.value probe_low probe_high i.walk) }
         ensures same_reference { IfOk result (λ i. i.context.ghost_name ≡ self.entry.ghost_name) }
         ensures* after { sem 𝓛 (RestsIfErr (the_row R.row R.Endian.row R.Offset.row R.Reader
             R.Endian.Endianity R.Offset.ReaderOffset.own R.Offset.Debug) self.entry

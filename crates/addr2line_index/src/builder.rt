@@ -38,6 +38,7 @@ impl Model for LinesBuilder {
 }
 
 // A row as lookups use it.
+#[inline(always)]
 fn line_row(row: ProgramRow) -> LineRow
     ensures { result ≡ line_row row }
 {
@@ -64,6 +65,7 @@ impl LinesBuilder {
 
     /// Takes the next row. Its line and column are taken modulo 2^32. Out of memory leaves the
     /// builder as it was.
+    #[inline(always)]
     pub fn push(&mut self, row: ProgramRow) -> Result<(), Error>
         ensures ok { OnOk result ((rows : List Row) → self.old ≡ partial_lines rows
             → self.new ≡ partial_lines (rows ++ row ∷ [])) }
@@ -77,6 +79,7 @@ impl LinesBuilder {
         }
     }
 
+    #[inline(always)]
     fn put(&mut self, row: LineRow) -> Result<(), Error>
         ensures ok { OnOk result (self.new ≡ with_row row self.old) }
         ensures err { OnErr result (self.new ≡ self.old) }
@@ -85,7 +88,9 @@ impl LinesBuilder {
         self.rows.put(row)
     }
 
-    // Ends the rows since the last end: a sequence, if the first of them is below their end.
+    // Ends the rows since the last end: a sequence, if the first of them is below their end. It is
+    // rare: what appends a row doesn't hold its code.
+    #[inline(never)]
     fn end(&mut self, end: u64) -> Result<(), Error>
         ensures ok { OnOk result (self.new ≡ with_end end self.old) }
         ensures err { OnErr result (self.new ≡ self.old) }

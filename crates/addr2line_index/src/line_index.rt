@@ -1,7 +1,7 @@
 //! The lines of a unit, searched by bisections. Their sequences and rows are kept once, in lists
 //! that count each look at them.
 
-ghost use Rattle.std.specs.Prelude.{◌≡◌, ◌+◌, ◌<◌, ◌==◌, ℕ, length, slice_get, option_map, Ok, Some, IfOk, IfErr, map};
+ghost use Rattle.std.specs.Prelude.{◌≡◌, ◌+◌, ◌<◌, ℕ, length, slice_get, option_map, Ok, Some, IfOk, IfErr, map};
 ghost use Rattle.std.specs.String.{string_bytes};
 ghost use Rattle.addr2line_spec.specs.Calls.{ReturnsOrNoMemory};
 ghost use Rattle.addr2line_spec.specs.Error.TheVariants.{Memory};
@@ -223,13 +223,6 @@ impl LineIndex {
         ensures { result.now ≡ self.now }
     {
         self.indexed.as_ref()
-    }
-
-    /// Whether there are no sequences. Nothing is looked at.
-    pub fn is_empty(&self) -> bool
-        ensures { result ≡ (length self.now.lines.sequences == 0) }
-    {
-        self.indexed().len() == 0
     }
 
     /// The text of a file by its number.

@@ -38,6 +38,7 @@ impl Model for NarrowRow {
 
 impl NarrowRow {
     // The row, if its numbers fit.
+    #[inline(always)]
     pub(crate) fn of(row: &LineRow) -> Option<Self>
         ensures { result ≡ if_narrow row.now }
     {

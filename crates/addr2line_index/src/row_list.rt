@@ -45,6 +45,7 @@ impl Model for RowList {
 }
 
 // Whether an address is below that of the last of narrow rows.
+#[inline(always)]
 fn is_below_last(rows: &[NarrowRow], address: u64) -> bool
     ensures { result ≡ nat_lt address (last_address 0 rows.now) }
 {
@@ -54,18 +55,22 @@ fn is_below_last(rows: &[NarrowRow], address: u64) -> bool
     }
 }
 
-// A row in the narrow form, if it fits and isn't below the last of narrow rows.
+// A row in the narrow form, if it fits and isn't below the last of narrow rows. Its place after the
+// last one is asked last, so that `put_narrow` goes by the same comparison.
+#[inline(always)]
 fn narrow_after(rows: &[NarrowRow], row: &LineRow) -> Option<NarrowRow>
     ensures row { IfSome result (λ r. r ≡ row.now) }
     ensures later { IfSome result (λ r. last_address 0 rows.now ≤ r.address) }
 {
+    let narrow = NarrowRow::of(row)?;
     if is_below_last(rows, row.address) {
         return None;
     }
-    NarrowRow::of(row)
+    Some(narrow)
 }
 
 // Appends a narrow row, in place of the last one where that is at the same address.
+#[inline(always)]
 fn put_narrow(rows: &mut Vec<NarrowRow>, row: NarrowRow) -> Result<(), Error>
     ensures ok { OnOk result (rows.new.items ≡ put_row row rows.old.items) }
     ensures err { OnErr result (rows.new.items ≡ rows.old.items) }
@@ -81,6 +86,7 @@ fn put_narrow(rows: &mut Vec<NarrowRow>, row: NarrowRow) -> Result<(), Error>
 }
 
 // Whether the last of narrow rows is at an address.
+#[inline(always)]
 fn is_last_narrow_at(rows: &[NarrowRow], address: u64) -> bool
     ensures { result ≡ is_at address (slice_get rows.now (length rows.now - 1)) }
 {
@@ -132,7 +138,26 @@ fn wide_rows(alloc: Global, rows: &[NarrowRow]) -> Result<Vec<LineRow>, Error>
 impl RowForm {
     // Appends a row, in place of the last one where that is at the same address. Narrow rows are
     // made wide where it doesn't fit among them. Out of memory leaves the rows as they were.
+    #[inline(always)]
     fn put(&mut self, row: LineRow) -> Result<(), Error>
+        requires { IsForm self.old }
+        ensures form { IsForm self.new }
+        ensures ok { OnOk result (rows_in_form self.new ≡ put_row row (rows_in_form self.old)) }
+        ensures err { OnErr result (rows_in_form self.new ≡ rows_in_form self.old) }
+        ensures refusal { IfErr result (λ e. e ≡ Memory) }
+    {
+        match self {
+            RowForm::Narrow(rows) => match narrow_after(rows.as_slice(), &row) {
+                Some(narrow) => put_narrow(rows, narrow),
+                None => self.put_wide(row),
+            },
+            RowForm::Wide(_) => self.put_wide(row),
+        }
+    }
+
+    // The same, with all rows wide then. It is rare: what appends narrow rows doesn't hold its code.
+    #[inline(never)]
+    fn put_wide(&mut self, row: LineRow) -> Result<(), Error>
         requires { IsForm self.old }
         ensures form { IsForm self.new }
         ensures ok { OnOk result (rows_in_form self.new ≡ put_row row (rows_in_form self.old)) }
@@ -142,9 +167,6 @@ impl RowForm {
         let wide = match self {
             RowForm::Wide(rows) => return put_row(rows, row),
             RowForm::Narrow(rows) => {
-                if let Some(narrow) = narrow_after(rows.as_slice(), &row) {
-                    return put_narrow(rows, narrow);
-                }
                 let mut wide = wide_rows(*rows.allocator(), rows.as_slice())?;
                 put_row(&mut wide, row)?;
                 wide
@@ -177,6 +199,7 @@ impl RowList {
 
     // Appends a row, in place of the last one where that is at the same address. Out of memory
     // leaves the rows as they were.
+    #[inline(always)]
     pub(crate) fn put(&mut self, row: LineRow) -> Result<(), Error>
         ensures ok { OnOk result (self.new ≡ put_row row self.old) }
         ensures err { OnErr result (self.new ≡ self.old) }

@@ -3,7 +3,7 @@
 ghost use Rattle.std.specs.Prelude.{◌≡◌, ◌≢◌, Ok, Err, IfErr, IfOk, option_map};
 ghost use Rattle.addr2line_context.specs.BorrowedLocations.{location_value};
 ghost use Rattle.addr2line_context.specs.Calls.{ReturnsAs, ReturnsAsOrNoMemory};
-ghost use Rattle.addr2line_context.specs.ContextCosts.{AsksBetween, AsksForPlace};
+ghost use Rattle.addr2line_context.specs.ContextCosts.{AsksForPlace, GoesBetween};
 ghost use Rattle.addr2line_context.specs.Contexts.{location, stretches};
 ghost use Rattle.addr2line_context.specs.Error.TheVariants.{Memory};
 ghost use Rattle.addr2line_context.specs.KeptUnits.{KeepsAsked};
@@ -145,8 +145,8 @@ impl Loader {
         ensures stretches { ReturnsAs (λ i. left_in i.loader.now i.walk) result
             (Ok (stretches self.old.file.context.context probe_low probe_high)) }
         ensures loader { IfOk result (λ i. i.loader.now ≡ self.old) }
-        ensures asks { IfOk result (λ i.
-            AsksBetween (answered_context self.old.file) probe_low probe_high i.walk) }
+        ensures between { IfOk result (λ i.
+            GoesBetween (answered_context self.old.file) probe_low probe_high i.walk) }
         ensures same_reference { IfOk result (λ i. i.loader.ghost_name ≡ self.entry.ghost_name) }
         ensures* after { sem 𝓛 (RestsIfErr the_row self.entry (λ i. i.loader.ghost_name) result
             (λ left. left ≡ self.old)) }

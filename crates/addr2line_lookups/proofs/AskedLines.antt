@@ -9,7 +9,7 @@ use Rattle.addr2line_unit.specs.UnitRange.{UnitRange}
 use Rattle.addr2line_unit.specs.ResolvedUnits.{ResolvedUnit, KeepsLines, value_of_unit, plain_unit}
 use Rattle.addr2line_lookups.specs.KeptUnits.{KeepsAt, KeepsMore, KeepsAsked, ReadsAsked, ReadsNoLines, AsksAmong, AsksForLines, row_at_number, check_at}
 use Rattle.addr2line_lookups.proofs.KeptLines.{same_plain, keeps_past}
-use Rattle.addr2line_lookups.proofs.UnitChanges.{changes_one, held_before, changes_none, changes_nothing, changes_after, changes_more, changes_both}
+use Rattle.addr2line_lookups.proofs.UnitChanges.{changes_one, held_before, changes_none, changes_nothing, changes_after, changes_first, changes_more, changes_both}
 
 -- ---- one unit
 
@@ -41,6 +41,11 @@ reads_nothing = changes_nothing KeepsLines
 pub reads_after : (asks : ℕ → Type 0) (us vs ws : List ResolvedUnit) → ReadsNoLines us vs → ReadsAsked asks vs ws
     → ReadsAsked asks us ws
 reads_after = changes_after KeepsLines
+
+-- or weren't afterwards
+pub reads_first : (asks : ℕ → Type 0) (us vs ws : List ResolvedUnit) → ReadsAsked asks us vs → ReadsNoLines vs ws
+    → ReadsAsked asks us ws
+reads_first = changes_first KeepsLines
 
 -- where lines of units that are asked are read last
 pub reads_more : (asks here : ℕ → Type 0) (us vs ws : List ResolvedUnit) → ((n : ℕ) → here n → asks n)

@@ -1,7 +1,6 @@
 -- Which units the next step of a walk over stretches asks, one after the other. Their lines are kept.
-use Rattle.std.proofs.Common.{◌≡◌, ◌≢◌, ◌⊎◌, inl, inr, ℕ, true, eqb, length, List, [], ◌∷◌, ◌++◌, drop, slice_get, map, option_map, Option, Some, None, Result, Ok, Err, refl, sym, ap, ◌∙◌, subst, arith}
+use Rattle.std.proofs.Common.{◌≡◌, ◌≢◌, ◌⊎◌, inl, inr, ℕ, List, [], ◌∷◌, ◌++◌, drop, slice_get, map, option_map, Option, Some, None, Result, Ok, Err, refl, sym, ap, ◌∙◌, subst}
 use Rattle.std.specs.Prelude.{max, min}
-use Rattle.std.proofs.lemmas.Bool.{eqb-true}
 use Rattle.std.proofs.lemmas.Option.{slice_get-map}
 use Rattle.addr2line_unit.specs.Error.{Error}
 use Rattle.addr2line_unit.specs.Error.TheVariants.{Memory}
@@ -10,6 +9,7 @@ use Rattle.addr2line_unit.specs.Results.{and_then}
 use Rattle.addr2line_unit.specs.Lines.{Lines, Stretch, lines_between}
 use Rattle.addr2line_unit.specs.LineCursor.{LineCursor}
 use Rattle.addr2line_unit.specs.LineCursors.{lines_left}
+use Rattle.addr2line_unit.specs.LineWalks.{WalkBegins}
 use Rattle.addr2line_unit.specs.PlaceLookups.{with_stretches}
 use Rattle.addr2line_unit.specs.Contexts.{ContextUnit}
 use Rattle.addr2line_unit.specs.UnitRange.{UnitRange}
@@ -19,8 +19,8 @@ use Rattle.addr2line_unit.specs.UnitPlaces.{UnitPlaces}
 use Rattle.addr2line_unit.specs.RangeIndexLaws.{with_unit_stretches}
 use Rattle.addr2line_unit.specs.ContextUnits.{unit_places}
 use Rattle.addr2line_unit.specs.ResolvedUnits.{ResolvedUnit, value_of_unit, plain_unit}
-use Rattle.addr2line_lookups.specs.KeptUnits.{KeepsAt, KeepsMore, KeepsAsked, ReadsAsked, lines_if_unit, lines_at, check_of, check_at}
-use Rattle.addr2line_lookups.specs.RangeWalks.{clipped_left, unit_left, rows_left, BeginsRange, NextOfRows, IsUnitOfRows, HasNoStretch, AsksAlong, AsksForStretch, AreOfRange}
+use Rattle.addr2line_lookups.specs.KeptUnits.{KeepsAt, KeepsMore, KeepsAsked, ReadsAsked, check_of, check_at}
+use Rattle.addr2line_lookups.specs.RangeWalks.{BeginsInUnit, clipped_left, unit_left, rows_left, BeginsRange, NextOfRows, IsUnitOfRows, HasNoStretch, AsksAlong, AsksForStretch, AreOfRange}
 use Rattle.addr2line_lookups.specs.declared.range_walk.RangeRows.{RangeRows}
 use Rattle.addr2line_lookups.specs.declared.range_walk.RangeWalk.{RangeWalk}
 use Rattle.addr2line_lookups.specs.declared.range_walk.UnitStretch.{UnitStretch}
@@ -58,106 +58,50 @@ module _ (low high : ℕ) (r : UnitRange) (e : Error) (rest : Listing (Unit {0})
 
 -- ---- the first rows of a range
 
-pub no_sequences : {A : Type 0} (ss : List A) → eqb (length ss) 0 ≡ true → ss ≡ []
-no_sequences [] h = refl
-no_sequences (s ∷ ss) h =
-    let none : length (s ∷ ss) ≡ 0 = eqb-true (length (s ∷ ss)) 0 h in absurd (omega arith)
-
--- an answer without the borrow
-pub answer_some : {X : Type 0} (see : X → Lines) (r : Result (Option Lines) Error) (o : Option X) (x : X)
-    → r ≡ Ok (option_map see o) → o ≡ Some x → r ≡ Ok (Some (see x))
-answer_some see r o x h is = h ∙ ap (λ p. Ok (option_map see p)) is
-
-pub answer_none : {X : Type 0} (see : X → Lines) (r : Result (Option Lines) Error) (o : Option X)
-    → r ≡ Ok (option_map see o) → o ≡ None → r ≡ Ok None
-answer_none see r o h is = h ∙ ap (λ p. Ok (option_map see p)) is
-
-module _ (low high : ℕ) (r : UnitRange) (rest : Listing (Unit {0}) Stretch) where
-  module _ (l : Lines) (none : l.sequences ≡ []) where
-    empty_lines : with_stretches low high r.range (Ok l) rest ≡ rest
-    empty_lines = rw none refl
-
-    empty_answer : (x : Result Lines Error) → and_then x (λ (k : Lines). Ok (Some k)) ≡ Ok (Some l)
-        → with_stretches low high r.range x rest ≡ rest
-    empty_answer (Ok k) h =
-        let same : k ≡ l = cc in
-        ap (λ (y : Lines). with_stretches low high r.range (Ok y) rest) same ∙ empty_lines
-    empty_answer (Err d) h = absurd cc
-
-    empty_unit : (o : Option ContextUnit) → lines_if_unit o ≡ Ok (Some l)
-        → with_unit_stretches low high r.range (option_map unit_places o) rest ≡ rest
-    empty_unit None h = absurd cc
-    empty_unit (Some u) h = empty_answer u.lines h
-
-    -- lines without sequences have none
-    pub begins_with_none : (us : List ContextUnit) → lines_at us r.unit ≡ Ok (Some l)
-        → with_unit_stretches low high r.range (slice_get (map unit_places us) r.unit) rest ≡ rest
-    begins_with_none us h =
-        subst (λ o. with_unit_stretches low high r.range o rest ≡ rest) (sym (slice_get-map unit_places us r.unit))
-        (empty_unit (slice_get us r.unit) h)
-
-  module _ (l : Lines) (c : LineCursor) (from : ℕ) (is_low : from ≡ max low r.range.begin)
-      (begins : lines_left l from (min high r.range.end) c ≡ lines_between l from (min high r.range.end)) where
-    same : lines_left l (max low r.range.begin) (min high r.range.end) c
-        ≡ lines_between l (max low r.range.begin) (min high r.range.end)
-    same =
-        let end = min high r.range.end in
-        subst (λ (n : ℕ). lines_left l n end c ≡ lines_between l n end) is_low begins
-
-    rows_of_answer : (x : Result Lines Error) → and_then x (λ (k : Lines). Ok (Some k)) ≡ Ok (Some l)
+module _ (low high : ℕ) (r : UnitRange) (rest : Listing (Unit {0}) Stretch) (from : ℕ)
+    (is_low : from ≡ max low r.range.begin) where
+  module _ (c : LineCursor) where
+    rows_of_lines : (x : Result Lines Error) → WalkBegins from x (Some c)
         → with_stretches low high r.range x rest ≡ prepend (clipped_left low high r.range c x) rest
-    rows_of_answer (Ok k) h =
-        let is : k ≡ l = cc in
-        subst (λ (y : Lines). with_stretches low high r.range (Ok y) rest
-        ≡ prepend (clipped_left low high r.range c (Ok y)) rest) (sym is)
-        (ap (λ (xs : List Stretch). prepend xs rest) (sym same))
-    rows_of_answer (Err d) h = absurd cc
+    rows_of_lines (Ok l) begins =
+        let end = min high r.range.end in
+        let same : lines_left l (max low r.range.begin) end c ≡ lines_between l (max low r.range.begin) end =
+        subst (λ (n : ℕ). lines_left l n end c ≡ lines_between l n end) is_low (begins end) in
+        ap (λ (xs : List Stretch). prepend xs rest) (sym same)
+    rows_of_lines (Err e) begins = absurd cc
 
-    rows_of_unit : (o : Option ContextUnit) → lines_if_unit o ≡ Ok (Some l)
+    rows_of_unit : (o : Option ContextUnit) → BeginsInUnit from o (Some c)
         → with_unit_stretches low high r.range (option_map unit_places o) rest
         ≡ prepend (unit_left low high r.range c (option_map unit_places o)) rest
-    rows_of_unit None h = absurd cc
-    rows_of_unit (Some u) h = rows_of_answer u.lines h
+    rows_of_unit None begins = absurd cc
+    rows_of_unit (Some u) begins = rows_of_lines u.lines begins
 
-    -- others have those from the cursor on
-    pub begins_with_rows : (us : List ContextUnit) → lines_at us r.unit ≡ Ok (Some l)
+    -- those from a cursor on
+    pub begins_with_rows : (us : List ContextUnit) → BeginsInUnit from (slice_get us r.unit) (Some c)
         → with_unit_stretches low high r.range (slice_get (map unit_places us) r.unit) rest
         ≡ prepend (unit_left low high r.range c (slice_get (map unit_places us) r.unit)) rest
-    begins_with_rows us h =
+    begins_with_rows us begins =
         subst (λ o. with_unit_stretches low high r.range o rest
         ≡ prepend (unit_left low high r.range c o) rest) (sym (slice_get-map unit_places us r.unit))
-        (rows_of_unit (slice_get us r.unit) h)
+        (rows_of_unit (slice_get us r.unit) begins)
 
-  none_of_answer : (x : Result Lines Error) → and_then x (λ (k : Lines). Ok (Some k)) ≡ Ok None
+  none_of_lines : (x : Result Lines Error) → and_then x (λ lines. checked tt) ≡ checked tt → WalkBegins from x None
       → with_stretches low high r.range x rest ≡ rest
-  none_of_answer (Ok k) h = absurd cc
-  none_of_answer (Err d) h = absurd cc
+  none_of_lines (Ok l) sound begins = absurd begins
+  none_of_lines (Err e) sound begins = absurd cc
 
-  none_of_unit : (o : Option ContextUnit) → lines_if_unit o ≡ Ok None
+  none_of_unit : (o : Option ContextUnit) → check_of o ≡ checked tt → BeginsInUnit from o None
       → with_unit_stretches low high r.range (option_map unit_places o) rest ≡ rest
-  none_of_unit None h = refl
-  none_of_unit (Some u) h = none_of_answer u.lines h
+  none_of_unit None sound begins = refl
+  none_of_unit (Some u) sound begins = none_of_lines u.lines sound begins
 
   -- a unit that isn't there has none
-  pub begins_without_unit : (us : List ContextUnit) → lines_at us r.unit ≡ Ok None
+  pub begins_without_unit : (us : List ContextUnit) → check_at us r.unit ≡ checked tt
+      → BeginsInUnit from (slice_get us r.unit) None
       → with_unit_stretches low high r.range (slice_get (map unit_places us) r.unit) rest ≡ rest
-  begins_without_unit us h =
+  begins_without_unit us sound begins =
       subst (λ o. with_unit_stretches low high r.range o rest ≡ rest) (sym (slice_get-map unit_places us r.unit))
-      (none_of_unit (slice_get us r.unit) h)
-
-module _ (e : Error) where
-  sound_lines : (x : Result Lines Error) → and_then x (λ lines. checked tt) ≡ checked tt
-      → and_then x (λ (l : Lines). Ok (Some l)) ≡ Err e → ⊥
-  sound_lines (Ok l) sound h = cc
-  sound_lines (Err d) sound h = cc
-
-  sound_unit : (o : Option ContextUnit) → check_of o ≡ checked tt → lines_if_unit o ≡ Err e → ⊥
-  sound_unit None sound h = cc
-  sound_unit (Some u) sound h = sound_lines u.lines sound h
-
-  -- lines that can be read aren't refused
-  pub lines_not_refused : (us : List ContextUnit) (n : ℕ) → check_at us n ≡ checked tt → lines_at us n ≡ Err e → ⊥
-  lines_not_refused us n sound h = sound_unit (slice_get us n) sound h
+      (none_of_unit (slice_get us r.unit) sound begins)
 
 -- ---- the rows that a walk is in
 

@@ -24,6 +24,7 @@ pub mod UnitProbes
 pub mod UnitRows
 pub mod UnitTurns
 mod RangeSteps
+mod WalkLooks
 mod ListedLoads
 mod UnitCalls
 pub mod UnitWalks

@@ -27,7 +27,9 @@ pub way_of_rows : (units : List ContextUnit) (ranges : List UnitRange) (result :
 way_of_rows units ranges (Ok (Some s)) old new h rows n (inl is) = inl (rows n is)
 way_of_rows units ranges (Ok (Some s)) old new h rows n (inr later) =
     inr (subst (λ (w : RangeWalk). IsUnitOf (overlapping_ranges w.low w.high (drop w.next.index ranges)) n) h.0 later)
-way_of_rows units ranges (Ok None) old new h rows n come = subst (λ (w : RangeWalk). ComesTo ranges w n) h.0 come
+way_of_rows units ranges (Ok None) old new h rows n (inl is) = inl (rows n is)
+way_of_rows units ranges (Ok None) old new h rows n (inr later) =
+    inr (subst (λ (w : RangeWalk). IsUnitOf (overlapping_ranges w.low w.high (drop w.next.index ranges)) n) h.0 later)
 way_of_rows units ranges (Err e) old new h rows n come = subst (λ (w : RangeWalk). ComesTo ranges w n) h.0 come
 
 module _ (ranges : List UnitRange) (w : RangeWalk) (r : UnitRange) (next : RangePlace)

@@ -3,7 +3,7 @@ use Rattle.std.specs.Prelude.{◌≡◌, ◌≢◌, ◌⊎◌, ℕ, ◌<◌, Boo
 use Rattle.addr2line_unit.specs.Error.{Error}
 use Rattle.addr2line_unit.specs.Error.TheVariants.{Memory}
 use Rattle.addr2line_unit.specs.Results.{and_then}
-use Rattle.addr2line_unit.specs.Lines.{Lines, LineRow, Location}
+use Rattle.addr2line_unit.specs.Lines.{LineRow, Location}
 use Rattle.addr2line_unit.specs.Contexts.{ContextUnit, ranges_of, lines_of}
 use Rattle.addr2line_unit.specs.PlaceLookups.{location_at}
 use Rattle.addr2line_unit.specs.UnitRange.{UnitRange}
@@ -78,17 +78,6 @@ pub record KeepsMoreFunctions (old new : ResolvedUnit) : Type 0 where
 pub record KeepMoreFunctions (old new : List ResolvedUnit) : Type 0 where
   pub functions : HoldsStill KeepsFunctionList old new
   pub calls : (function : ℕ) → HoldsStill (KeepsFunctionCalls function) old new
-
--- ---- lines
-
--- the lines of a unit, if there is one, or the refusal of them
-abbrev pub lines_if_unit : Option ContextUnit → Result (Option Lines) Error
-lines_if_unit None = Ok None
-lines_if_unit (Some u) = and_then u.lines (λ l. Ok (Some l))
-
--- those of the unit of a number
-abbrev pub lines_at : List ContextUnit → ℕ → Result (Option Lines) Error
-lines_at units number = lines_if_unit (slice_get units number)
 
 -- ---- places
 

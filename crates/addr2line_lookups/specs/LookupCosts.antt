@@ -45,11 +45,26 @@ pub record AtMostLooks (n : ℕ) (old new : List ResolvedUnit) : Type 0 where
   pub more : KeepsMore old new
   pub functions : KeepMoreFunctions old new
 
+-- The same of a step of a walk: its looks, and those that are left to the walk after it, are no more
+-- than those that were left before it.
+pub record TakesLooks (before after : ℕ) (old new : List ResolvedUnit) : Type 0 where
+  pub counters : map counters_of new ≡ map counters_of old
+  pub probes : probes_of new + after ≤ probes_of old + before
+  pub more : KeepsMore old new
+  pub functions : KeepMoreFunctions old new
+
 -- Lines alone were read, and nothing that is kept was looked at.
 pub record ReadsLines (old new : List ResolvedUnit) : Type 0 where
   pub values : map value_of_unit new ≡ map value_of_unit old
   pub calls : LeavesCalls old new
   pub cost : AtMostLooks 0 old new
+  pub functions : ReadsNoFunctions old new
+
+-- Lines alone were read, and a step of a walk over them took no more looks than were left to it.
+pub record WalksLines (before after : ℕ) (old new : List ResolvedUnit) : Type 0 where
+  pub values : map value_of_unit new ≡ map value_of_unit old
+  pub calls : LeavesCalls old new
+  pub cost : TakesLooks before after old new
   pub functions : ReadsNoFunctions old new
 
 -- ---- in the unit of a number

@@ -1,5 +1,5 @@
 -- The stretches between two ends that are left of a walk over the units' ranges.
-use Rattle.std.specs.Prelude.{◌≡◌, ◌≢◌, ◌⊎◌, ℕ, max, min, List, [], ◌∷◌, drop, map, slice_get, Option, Some, None, Result, Ok, Err}
+use Rattle.std.specs.Prelude.{◌≡◌, ◌≢◌, ◌⊎◌, ℕ, ◌+◌, max, min, List, [], ◌∷◌, length, drop, map, sum_by, slice_get, Option, Some, None, Result, Ok, Err}
 use Rattle.addr2line_unit.specs.Error.{Error}
 use Rattle.addr2line_unit.specs.Error.TheVariants.{Memory}
 use Rattle.addr2line_unit.specs.Repetition.{Listing, no_items, prepend}
@@ -11,7 +11,10 @@ use Rattle.addr2line_unit.specs.NumberedRanges.{overlapping_ranges}
 use Rattle.addr2line_unit.specs.UnitPlaces.{UnitPlaces}
 use Rattle.addr2line_unit.specs.RangeIndexLaws.{with_unit_stretches}
 use Rattle.addr2line_unit.specs.LineCursor.{LineCursor}
-use Rattle.addr2line_unit.specs.LineCursors.{lines_left}
+use Rattle.addr2line_unit.specs.LineCursors.{lines_left, probes_from}
+use Rattle.addr2line_unit.specs.LineWalks.{WalkBegins, WalkGoesOn}
+use Rattle.addr2line_unit.specs.RowStretch.{RowStretch}
+use Rattle.addr2line_unit.specs.Searches.{digit_count}
 use Rattle.addr2line_unit.specs.StretchesLeft.{stretches_from_index}
 use Rattle.addr2line_unit.specs.ContextUnits.{unit_places, ordered_ranges}
 use Rattle.addr2line_unit.specs.ResolvedUnits.{ResolvedUnit}
@@ -19,6 +22,20 @@ use Rattle.addr2line_lookups.specs.KeptUnits.{KeepsAt, IsUnitOf, location_of_uni
 use Rattle.addr2line_lookups.specs.declared.range_walk.RangeRows.{RangeRows}
 use Rattle.addr2line_lookups.specs.declared.range_walk.RangeWalk.{RangeWalk}
 use Rattle.addr2line_lookups.specs.declared.range_walk.UnitStretch.{UnitStretch}
+
+-- ---- one unit
+
+-- a walk over the lines of a unit from a low end on begins at a cursor; at none where there is no
+-- unit, or its lines are refused
+abbrev pub BeginsInUnit : ℕ → Option ContextUnit → Option LineCursor → Type 0
+BeginsInUnit low None c = c ≡ None
+BeginsInUnit low (Some u) c = WalkBegins low u.lines c
+
+-- its next row at a cursor, if one is left between two ends
+abbrev pub GoesOnInUnit : ℕ → ℕ → LineCursor → Option ContextUnit
+    → Option (RowStretch × LineCursor) → Type 0
+GoesOnInUnit low high c None f = f ≡ None
+GoesOnInUnit low high c (Some u) f = WalkGoesOn low high c u.lines f
 
 -- ---- one range
 
@@ -70,8 +87,8 @@ NextInRange units low high r (Some f) =
     FirstStretch units f.0 (rows_left (map unit_places units) low high (Some r))
     (rows_left (map unit_places units) low high (Some f.1))
 
--- The next of the stretches of the range that a walk is in, if there is one; else the walk stays
--- where it was.
+-- The next of the stretches of the range that a walk is in, if there is one; else the walk leaves
+-- that range. It stays where it was when out of memory.
 abbrev pub NextOfRows : List ContextUnit → Result (Option UnitStretch) Error → RangeWalk
     → RangeWalk → Type 0
 NextOfRows units (Ok (Some s)) old new =
@@ -79,7 +96,8 @@ NextOfRows units (Ok (Some s)) old new =
     × FirstStretch units s (rows_left (map unit_places units) old.low old.high old.rows)
     (rows_left (map unit_places units) old.low old.high new.rows)
 NextOfRows units (Ok None) old new =
-    (new ≡ old) × (rows_left (map unit_places units) old.low old.high old.rows ≡ [])
+    (new ≡ record old { rows = None })
+    × (rows_left (map unit_places units) old.low old.high old.rows ≡ [])
 NextOfRows units (Err e) old new = (new ≡ old) × (e ≡ Memory)
 
 -- the lines of the unit whose row was found are kept
@@ -108,6 +126,64 @@ FindsStretch units (Ok (Some s)) old new =
     (x : Stretch) × IsStretchOf units s x × (old ≡ prepend (x ∷ []) new)
 FindsStretch units (Ok None) old new = (old ≡ no_items (Ok tt)) × (new ≡ old)
 FindsStretch units (Err e) old new = (e ≢ Memory → old ≡ no_items (Err e)) × (new ≡ old)
+
+-- ---- looks at what is kept
+
+-- those that are left to a walk over lines at a cursor: at the sequences that are left, and three
+-- at a row
+abbrev pub probes_left : LineCursor → Result Lines Error → ℕ
+probes_left c (Ok l) = probes_from l c.next + 3
+probes_left c (Err e) = 0
+
+-- those of all of it: a search for its cursor, and those that are left at the first sequence
+abbrev pub all_probes : Result Lines Error → ℕ
+all_probes (Ok l) = digit_count (length l.sequences) + (probes_from l 0 + 3)
+all_probes (Err e) = 0
+
+-- those in a unit, if there is one, at a cursor, if there is one
+abbrev pub unit_probes_left : Option LineCursor → Option ContextUnit → ℕ
+unit_probes_left None u = 0
+unit_probes_left (Some c) None = 0
+unit_probes_left (Some c) (Some u) = probes_left c u.lines
+
+-- those of all of a walk in a unit
+abbrev pub unit_probes : Option ContextUnit → ℕ
+unit_probes None = 0
+unit_probes (Some u) = all_probes u.lines
+
+-- those in the range that a walk is in, if it is in one
+abbrev pub rows_looks : List ContextUnit → Option RangeRows → ℕ
+rows_looks units None = 0
+rows_looks units (Some r) = unit_probes_left (Some r.cursor) (slice_get units r.range.unit)
+
+-- those of all of a range
+abbrev pub range_looks : List ContextUnit → UnitRange → ℕ
+range_looks units r = unit_probes (slice_get units r.unit)
+
+-- those that are left in it after a walk came to it: all, where it was refused
+abbrev pub begun_looks : List ContextUnit → UnitRange → Result (Option RangeRows) Error → ℕ
+begun_looks units r (Ok rows) = rows_looks units rows
+begun_looks units r (Err e) = range_looks units r
+
+-- those of the ranges from an index on that overlap with what is between two ends
+abbrev pub looks_from : List ContextUnit → ℕ → ℕ → List UnitRange → ℕ → ℕ
+looks_from units low high ranges index =
+    sum_by (range_looks units) (overlapping_ranges low high (drop index ranges))
+
+-- those that are left to a walk: in the range that it is in, and in those after it
+abbrev pub walk_looks : List ContextUnit → List UnitRange → RangeWalk → ℕ
+walk_looks units ranges w =
+    rows_looks units w.rows + looks_from units w.low w.high ranges w.next.index
+
+-- those that a step takes besides: three, where it finds a row
+abbrev pub found_looks : {A : Type 0} → Option A → ℕ
+found_looks None = 0
+found_looks (Some x) = 3
+
+-- the same of a step that may be refused
+abbrev pub step_looks : {A : Type 0} → Result (Option A) Error → ℕ
+step_looks (Ok found) = found_looks found
+step_looks (Err e) = 0
 
 -- ---- units that are asked
 

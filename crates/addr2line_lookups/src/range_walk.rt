@@ -1,23 +1,22 @@
 //! Walks over the stretches between two ends. The lines of a unit are read where a walk comes to
 //! it, and kept.
 
-ghost use Rattle.std.specs.Prelude.{◌≡◌, ◌≢◌, ℕ, List, Ok, Err, map, option_map, MatchOption, IfOk};
-ghost use Rattle.addr2line_unit.specs.Calls.{ReturnsAs};
+ghost use Rattle.std.specs.Prelude.{◌≡◌, ◌≢◌, ◌+◌, ℕ, List, Some, Ok, Err, map, slice_get, option_map, MatchOption, IfOk};
 ghost use Rattle.addr2line_unit.specs.Error.TheVariants.{Memory};
 ghost use Rattle.addr2line_unit.specs.Contexts.{ContextUnit, ranges_of, lines_of};
 ghost use Rattle.addr2line_unit.specs.PlaceLookups.{stretches_between};
 ghost use Rattle.addr2line_unit.specs.UnitRange.{UnitRange as Numbered};
 ghost use Rattle.addr2line_unit.specs.NumberedRanges.{overlapping_ranges};
 ghost use Rattle.addr2line_unit.specs.ContextUnits.{unit_places};
-ghost use Rattle.addr2line_unit.specs.ResolvedUnits.{KeepsLines, plain_unit};
-ghost use Rattle.addr2line_lookups.specs.KeptUnits.{KeepsAt, KeepsAsked, ReadsAsked, IsUnitOf, lines_at, check_at};
-ghost use Rattle.addr2line_lookups.specs.LookupCosts.{ReadsLines};
-ghost use Rattle.addr2line_lookups.specs.RangeWalks.{BeginsRange, NextInRange, NextOfRows, KeepsStretch, FindsStretch, walk_left, stretches_left, AreOfRange, IsUnitOfRows, ComesTo, AsksForStretch, StaysOnItsWay};
+ghost use Rattle.addr2line_unit.specs.ResolvedUnits.{plain_unit};
+ghost use Rattle.addr2line_lookups.specs.KeptUnits.{KeepsAt, KeepsAsked, ReadsAsked, ReadsNoLines, IsUnitOf, check_at};
+ghost use Rattle.addr2line_lookups.specs.LookupCosts.{WalksLines};
+ghost use Rattle.addr2line_lookups.specs.RangeWalks.{BeginsInUnit, GoesOnInUnit, BeginsRange, NextInRange, NextOfRows, KeepsStretch, FindsStretch, walk_left, stretches_left, AreOfRange, IsUnitOfRows, ComesTo, AsksForStretch, StaysOnItsWay, unit_probes, unit_probes_left, rows_looks, range_looks, begun_looks, looks_from, walk_looks, found_looks, step_looks};
 
 use crate::parsing::check_at;
-use crate::settle::{UnitRow, read_at, unit_at};
+use crate::settle::{UnitRow, read_at};
 use addr2line_unit::{
-    Error, LineCursor, LineIndex, RangePlace, Reader, ResUnit, RowStretch, UnitRange, UnitRanges,
+    Error, LineCursor, RangePlace, Reader, ResUnit, RowStretch, UnitRange, UnitRanges,
 };
 use std::alloc::Global;
 
@@ -54,6 +53,8 @@ impl RangeWalk {
             ≡ stretches_between ranges_of lines_of units low high }
         ensures units { (ranges : List Numbered) → (number : ℕ) → ComesTo ranges result number
             → IsUnitOf (overlapping_ranges low high ranges) number }
+        ensures looks { (units : List ContextUnit) → (ranges : List Numbered)
+            → walk_looks units ranges result ≡ looks_from units low high ranges 0 }
     {
         RangeWalk {
             low,
@@ -64,58 +65,61 @@ impl RangeWalk {
     }
 }
 
-// The lines of a unit, or the refusal of them. They are kept.
-fn lines_of<R: Reader>(unit: &ResUnit<R>) -> Result<&LineIndex, Error>
-    requires { KeepsLines unit.now }
-    ensures lines { ReturnsAs (λ l. l.now.lines) result unit.now.value.unit.lines }
-    ensures counter { IfOk result (λ l. l.now.counter ≡ unit.now.probes.name) }
+// Where a walk over the rows of the unit of a number from a low end on begins; at none where there
+// is no such unit, or its lines, which are kept, are refused.
+fn cursor_at<R: Reader>(units: &mut Vec<ResUnit<R>>, number: usize, low: u64) -> Option<LineCursor>
+    requires { KeepsAt units.old.items number }
+    ensures change { let unit = slice_get (map plain_unit units.old.items) number in
+        WalksLines (unit_probes unit) (unit_probes_left result unit)
+        units.old.items units.new.items }
+    ensures lines { ReadsNoLines units.old.items units.new.items }
+    ensures begins { BeginsInUnit low (slice_get (map plain_unit units.old.items) number) result }
 {
-    match unit.kept_lines() {
-        Some(Ok(lines)) => Ok(lines.index()),
-        Some(Err(error)) => Err(*error),
-        None => unreachable!(),
+    if number >= units.len() {
+        return None;
     }
+    let unit = &mut units[number];
+    unit.cursor_from(low)
 }
 
-// The unit of a number with its lines, if there is one.
-fn lines_at<R: Reader>(
-    units: &[ResUnit<R>],
+// The next row of such a walk between two ends.
+fn next_at<R: Reader>(
+    units: &mut Vec<ResUnit<R>>,
     number: usize,
-) -> Result<Option<(&ResUnit<R>, &LineIndex)>, Error>
-    requires { KeepsAt units.now number }
-    ensures lines { ReturnsAs (option_map (λ f. f.1.now.lines)) result
-        (lines_at (map plain_unit units.now) number) }
-    ensures counter { IfOk result (λ found. MatchOption found (Unit {0})
-        (λ f. f.1.now.counter ≡ f.0.now.probes.name)) }
+    cursor: LineCursor,
+    low: u64,
+    high: u64,
+) -> Option<(RowStretch, LineCursor)>
+    requires { KeepsAt units.old.items number }
+    ensures change { let unit = slice_get (map plain_unit units.old.items) number in
+        WalksLines (unit_probes_left (Some cursor) unit + found_looks result)
+        (unit_probes_left (option_map (λ f. f.1) result) unit)
+        units.old.items units.new.items }
+    ensures lines { ReadsNoLines units.old.items units.new.items }
+    ensures row { GoesOnInUnit low high cursor
+        (slice_get (map plain_unit units.old.items) number) result }
 {
-    match unit_at(units, number) {
-        Some(unit) => match lines_of(unit) {
-            Ok(lines) => Ok(Some((unit, lines))),
-            Err(error) => Err(error),
-        },
-        None => Ok(None),
+    if number >= units.len() {
+        return None;
     }
+    let unit = &mut units[number];
+    unit.next_between(cursor, low, high)
 }
 
-// The rows of the unit of a range, if there is one and it has any. Its lines are kept, and aren't
-// refused.
-fn rows_in<R: Reader>(units: &[ResUnit<R>], range: UnitRange, low: u64) -> Option<RangeRows>
-    requires kept { KeepsAt units.now range.unit }
-    requires lines { check_at (map plain_unit units.now) range.unit ≡ Ok tt }
-    ensures rows { (high : ℕ) → BeginsRange (map unit_places (map plain_unit units.now)) low high
-        range (Ok result) }
+// The rows of the unit of a range, if there is one. Its lines are kept, and aren't refused.
+fn rows_in<R: Reader>(units: &mut Vec<ResUnit<R>>, range: UnitRange, low: u64) -> Option<RangeRows>
+    requires kept { KeepsAt units.old.items range.unit }
+    requires lines { check_at (map plain_unit units.old.items) range.unit ≡ Ok tt }
+    ensures change { WalksLines (range_looks (map plain_unit units.old.items) range)
+        (rows_looks (map plain_unit units.old.items) result) units.old.items units.new.items }
+    ensures lines { ReadsNoLines units.old.items units.new.items }
+    ensures rows { (high : ℕ) → BeginsRange (map unit_places (map plain_unit units.old.items)) low
+        high range (Ok result) }
     ensures range { AreOfRange range result }
 {
-    match lines_at(units, range.unit) {
-        Ok(Some((unit, lines))) => {
-            if lines.is_empty() {
-                return None;
-            }
-            let cursor = unit.cursor_from(lines, low.max(range.range.begin));
-            Some(RangeRows { range, cursor })
-        }
-        Ok(None) => None,
-        Err(_) => unreachable!(),
+    match cursor_at(units, range.unit, low.max(range.range.begin)) {
+        Some(cursor) => Some(RangeRows { range, cursor }),
+        None => None,
     }
 }
 
@@ -138,30 +142,28 @@ fn unit_stretch(range: UnitRange, stretch: RowStretch) -> UnitStretch
 
 // The next stretch of the unit of a range, and the rows after it. The unit's lines are kept.
 fn next_in<R: Reader>(
-    units: &[ResUnit<R>],
+    units: &mut Vec<ResUnit<R>>,
     rows: RangeRows,
     low: u64,
     high: u64,
 ) -> Option<(UnitStretch, RangeRows)>
-    requires { KeepsAt units.now rows.range.unit }
-    ensures stretch { NextInRange (map plain_unit units.now) low high rows result }
+    requires { KeepsAt units.old.items rows.range.unit }
+    ensures change { let us = map plain_unit units.old.items in
+        WalksLines (rows_looks us (Some rows) + found_looks result)
+        (rows_looks us (option_map (λ f. f.1) result)) units.old.items units.new.items }
+    ensures lines { ReadsNoLines units.old.items units.new.items }
+    ensures stretch { NextInRange (map plain_unit units.old.items) low high rows result }
     ensures unit { MatchOption result (Unit {0}) (λ f. f.0.row.unit ≡ rows.range.unit) }
     ensures range { MatchOption result (Unit {0}) (λ f. f.1.range ≡ rows.range) }
 {
     let RangeRows { range, cursor } = rows;
-    match lines_at(units, range.unit) {
-        Ok(Some((unit, lines))) => {
-            let low = low.max(range.range.begin);
-            let high = high.min(range.range.end);
-            match unit.next_between(lines, cursor, low, high) {
-                Some((stretch, cursor)) => {
-                    Some((unit_stretch(range, stretch), RangeRows { range, cursor }))
-                }
-                None => None,
-            }
+    let low = low.max(range.range.begin);
+    let high = high.min(range.range.end);
+    match next_at(units, range.unit, cursor, low, high) {
+        Some((stretch, cursor)) => {
+            Some((unit_stretch(range, stretch), RangeRows { range, cursor }))
         }
-        Ok(None) => None,
-        Err(_) => None,
+        None => None,
     }
 }
 
@@ -173,7 +175,9 @@ fn first_rows<R: Reader>(
     range: UnitRange,
     low: u64,
 ) -> Result<Option<RangeRows>, Error>
-    ensures change { ReadsLines units.old.items units.new.items }
+    ensures change { WalksLines (range_looks (map plain_unit units.old.items) range)
+        (begun_looks (map plain_unit units.old.items) range result)
+        units.old.items units.new.items }
     ensures reads { ReadsAsked (λ n. n ≡ range.unit) units.old.items units.new.items }
     ensures rows { (high : ℕ) → BeginsRange (map unit_places (map plain_unit units.old.items)) low
         high range result }
@@ -182,17 +186,20 @@ fn first_rows<R: Reader>(
     ensures free { KeepsAt units.old.items range.unit → result ≢ Err Memory }
 {
     check_at(alloc, units, range.unit)?;
-    Ok(rows_in(units.as_slice(), range, low))
+    Ok(rows_in(units, range, low))
 }
 
-// The next stretch of the unit of the range that a walk is in, if it is in one. The unit's lines
-// are read before, unless they are kept: the only error is out of memory.
+// The next stretch of the unit of the range that a walk is in, if it is in one, and has one; else
+// the walk leaves it. The unit's lines are read before, unless they are kept: the only error is out
+// of memory.
 fn next_of_rows<R: Reader>(
     alloc: Global,
     units: &mut Vec<ResUnit<R>>,
     walk: &mut RangeWalk,
 ) -> Result<Option<UnitStretch>, Error>
-    ensures change { ReadsLines units.old.items units.new.items }
+    ensures change { let us = map plain_unit units.old.items in
+        WalksLines (rows_looks us walk.old.rows + step_looks result) (rows_looks us walk.new.rows)
+        units.old.items units.new.items }
     ensures reads { ReadsAsked (IsUnitOfRows walk.old.rows) units.old.items units.new.items }
     ensures stretch { NextOfRows (map plain_unit units.old.items) result walk.old walk.new }
     ensures unit { (n : ℕ) → IsUnitOfRows walk.new.rows n → IsUnitOfRows walk.old.rows n }
@@ -205,25 +212,31 @@ fn next_of_rows<R: Reader>(
         return Ok(None);
     };
     read_at(alloc, units, rows.range.unit)?;
-    match next_in(units.as_slice(), rows, walk.low, walk.high) {
+    match next_in(units, rows, walk.low, walk.high) {
         Some((stretch, rest)) => {
             walk.rows = Some(rest);
             Ok(Some(stretch))
         }
-        None => Ok(None),
+        None => {
+            walk.rows = None;
+            Ok(None)
+        }
     }
 }
 
 // The next stretch of a walk: that of the range that it is in, or else of the first range after it
 // that has one. The lines of the units up to there are read, unless they are kept; else it takes no
-// memory. A refusal of them leaves the walk before that unit.
+// memory. A refusal of them leaves the walk before that unit. It takes three looks at what is kept
+// at most, besides those that are no longer left to the walk.
 pub(crate) fn next_stretch<R: Reader>(
     alloc: Global,
     units: &mut Vec<ResUnit<R>>,
     ranges: &UnitRanges,
     walk: &mut RangeWalk,
 ) -> Result<Option<UnitStretch>, Error>
-    ensures change { ReadsLines units.old.items units.new.items }
+    ensures change { let us = map plain_unit units.old.items in
+        WalksLines (walk_looks us ranges.now walk.old + 3) (walk_looks us ranges.now walk.new)
+        units.old.items units.new.items }
     ensures stretch { FindsStretch (map plain_unit units.old.items) result
         (walk_left (map unit_places (map plain_unit units.old.items)) ranges.now walk.old)
         (walk_left (map unit_places (map plain_unit units.old.items)) ranges.now walk.new) }

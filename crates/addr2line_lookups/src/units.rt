@@ -1,6 +1,6 @@
 //! The units of a context with their ranges, in the order in which lookups ask them.
 
-ghost use Rattle.std.specs.Prelude.{◌≡◌, ◌≢◌, [], None, Ok, Err, map, option_map, IfOk, OnOk, IfErr};
+ghost use Rattle.std.specs.Prelude.{◌≡◌, ◌≢◌, ◌+◌, [], None, Ok, Err, map, option_map, IfOk, OnOk, IfErr};
 ghost use Rattle.addr2line_unit.specs.Calls.{ReturnsAsOrNoMemory, ReturnsOrNoMemory};
 ghost use Rattle.addr2line_unit.specs.Error.TheVariants.{Memory};
 ghost use Rattle.addr2line_unit.specs.Contexts.{all_lines_or_refusal};
@@ -18,8 +18,8 @@ ghost use Rattle.addr2line_lookups.specs.UnitLookups.{frames_among, SettlesFrame
 ghost use Rattle.addr2line_lookups.specs.AddressSearches.{SettlesAmong};
 ghost use Rattle.addr2line_unit.specs.BorrowedFrames.{frames_left};
 ghost use Rattle.addr2line_lookups.specs.KeptUnits.{KeepsAt, KeepsFound, KeepsAsked, ReadsAsked, ReadsNoLines, ReadsAskedFunctions, ReadsNoFunctions, AsksForRow, AsksForLines, FindsRow, location_of_unit_row};
-ghost use Rattle.addr2line_lookups.specs.RangeWalks.{FindsStretch, KeepsStretch, stretches_left, AsksForNextStretch, StaysOnItsWay};
-ghost use Rattle.addr2line_lookups.specs.LookupCosts.{AtMostLooks, row_looks, frame_search_looks, unit_search_looks};
+ghost use Rattle.addr2line_lookups.specs.RangeWalks.{FindsStretch, KeepsStretch, stretches_left, AsksForNextStretch, StaysOnItsWay, walk_looks};
+ghost use Rattle.addr2line_lookups.specs.LookupCosts.{AtMostLooks, TakesLooks, row_looks, frame_search_looks, unit_search_looks};
 ghost use Rattle.addr2line_lookups.specs.UnitParses.{WalksOrNoMemory, KeepsParsed, KeepAllCalls, check_functions_of, check_calls_of};
 
 use crate::address_search::{AddressSearch, FrameSearch, UnitSearch};
@@ -118,11 +118,14 @@ impl<R: Reader> Units<R> {
     }
 
     // The next stretch of a walk. The lines of the units that it asks are read, unless they are
-    // kept, and kept; else it takes no memory.
+    // kept, and kept; else it takes no memory. It takes three looks at what is kept at most, besides
+    // those that are no longer left to the walk.
     pub fn next_stretch(&mut self, walk: &mut RangeWalk) -> Result<Option<UnitStretch>, Error>
         ensures values { map value_of_unit self.new ≡ map value_of_unit self.old }
         ensures calls { LeavesCalls self.old self.new }
-        ensures cost { AtMostLooks 0 self.old self.new }
+        ensures cost { let us = map plain_unit self.old in
+            TakesLooks (walk_looks us (ordered_ranges us) walk.old + 3)
+            (walk_looks us (ordered_ranges us) walk.new) self.old self.new }
         ensures stretch { FindsStretch (map plain_unit self.old) result
             (stretches_left (map plain_unit self.old) walk.old)
             (stretches_left (map plain_unit self.old) walk.new) }

@@ -124,14 +124,14 @@ same_lines file a b a_in b_in keys texts =
 
 -- it is the last program of a file once it was run for a unit of it
 pub program_kept : (u : UnitInFile) (counter : ℕ) (last new : LastProgram) (p : ProgramRun) (ranges : List Range)
-    (lines : Result CountedLines Error) → new ≡ record last { program = Some p } → counter ≡ last.counter
+    (lines : Result CountedLines Error) → new ≡ record last { program = Some p } → counter ≡ last.counters.name
     → p ≡ record { key = program_key u.facts; texts = unit_texts u.facts; ranges = ranges; lines = lines }
     → ranges ≡ ranges_of_lines (lines_of_unit u) → lines ≡ counted_lines counter (lines_of_unit u) → HasHeaderInFile u
     → IsLastProgramOf u.file new
 program_kept u counter last new p ranges lines is name made ranges_are lines_are header =
     let lines_of : p.lines ≡ counted_lines counter (lines_of_unit u) =
     ap (λ (q : ProgramRun). q.lines) made ∙ lines_are in
-    let program : IsProgramOf u.file last.counter p = record {
+    let program : IsProgramOf u.file last.counters.name p = record {
       unit = u.facts;
       header_in_file = header;
       has_key = ap (λ (q : ProgramRun). q.key) made;
@@ -143,8 +143,8 @@ program_kept u counter last new p ranges lines is name made ranges_are lines_are
 
 -- so it is what the last program of a file is
 pub last_is : (file : DwarfFile) (last : LastProgram) (p : ProgramRun) → last.program ≡ Some p
-    → IsLastProgramOf file last → IsProgramOf file last.counter p
-last_is file last p is of = subst (λ (o : Option ProgramRun). IfSome o (IsProgramOf file last.counter)) is of
+    → IsLastProgramOf file last → IsProgramOf file last.counters.name p
+last_is file last p is of = subst (λ (o : Option ProgramRun). IfSome o (IsProgramOf file last.counters.name)) is of
 
 -- and some unit may share it
 pub header_of_sharing : (u : UnitInFile) (last : LastProgram) (p : ProgramRun) → last.program ≡ Some p

@@ -3,6 +3,7 @@
 use Rattle.std.specs.Prelude.{◌≡◌, ℕ, true, List, Option, Some, None, is_some, option_map, Result, Ok, IfSome}
 use Rattle.addr2line_ranges.specs.Error.{Error}
 use Rattle.addr2line_ranges.specs.Range.{Range}
+use Rattle.addr2line_ranges.specs.ProbedLists.{CounterMaker}
 use Rattle.addr2line_ranges.specs.LineHeaders.{LineHeader}
 use Rattle.addr2line_ranges.specs.HeaderParsing.{header_at}
 use Rattle.addr2line_ranges.specs.DwarfFiles.{DwarfFile}
@@ -68,13 +69,13 @@ pub record IsProgramOf (file : DwarfFile) (counter : ℕ) (p : ProgramRun) : Typ
   pub has_ranges : p.ranges ≡ ranges_of_lines (lines_of_unit (in_file file unit))
   pub has_lines : p.lines ≡ counted_lines counter (lines_of_unit (in_file file unit))
 
--- the last one, if there is one, and the name of the counters of looks at lines
+-- the last one, if there is one, and the maker of the counters of looks at lines
 pub record LastProgram : Type 0 where
-  pub counter : ℕ
+  pub counters : CounterMaker
   pub program : Option ProgramRun
 
 abbrev pub IsLastProgramOf : DwarfFile → LastProgram → Type 0
-IsLastProgramOf file last = IfSome last.program (IsProgramOf file last.counter)
+IsLastProgramOf file last = IfSome last.program (IsProgramOf file last.counters.name)
 
 -- where there is one, the header of this unit of the file is in the file, too
 abbrev pub IsLastProgramFor : UnitInFile → LastProgram → Type 0

@@ -5,6 +5,7 @@
 ghost use Rattle.std.specs.Prelude.{◌≡◌, Ok, Some, None, IfOk, IfErr, MatchOption};
 ghost use Rattle.addr2line_ranges.specs.Calls.{ReturnsOrNoMemory};
 ghost use Rattle.addr2line_ranges.specs.Error.TheVariants.{Memory};
+ghost use Rattle.addr2line_ranges.specs.ProbedLists.{after_counter};
 ghost use Rattle.addr2line_root.specs.LastPrograms.{program_key, unit_texts, IsRunFor, SharesLines};
 
 use crate::counted_unit::CountedUnit;
@@ -143,13 +144,14 @@ impl<R: Reader> Model for LastProgram<R> {
 
     ghost Value = { Last };
 
-    ghost view = { λ l. record { counter = l.counters; program = l.program } };
+    ghost view = { λ l. record { counters = l.counters; program = l.program } };
 }
 
 impl<R: Reader> LastProgram<R> {
-    /// None yet. It takes no memory.
+    /// None yet, and no counter was made. It takes no memory.
     pub fn new() -> Self
-        ensures { result.program ≡ None }
+        ensures program { result.program ≡ None }
+        ensures counters { result.counters.made ≡ 0 }
     {
         LastProgram {
             counters: Counters::new(),
@@ -157,16 +159,11 @@ impl<R: Reader> LastProgram<R> {
         }
     }
 
-    /// The maker of counters of looks at the lines of a unit.
-    pub fn counters(&self) -> Counters
-        ensures { result ≡ self.now.counter }
-    {
-        self.counters.share()
-    }
-
-    /// A counter of looks at the lines of a unit.
-    pub fn counter(&self) -> Probes
-        ensures { result ≡ record { name = self.now.counter; count = 0 } }
+    /// One more counter of looks at the lines of a unit.
+    pub fn counter(&mut self) -> Probes
+        ensures counter { result ≡ record { name = self.old.counters.name; count = 0 } }
+        ensures made { self.new
+            ≡ record self.old { counters = after_counter self.old.counters } }
     {
         self.counters.counter()
     }

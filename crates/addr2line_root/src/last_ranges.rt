@@ -3,10 +3,10 @@
 ghost use Rattle.std.specs.Prelude.{◌≡◌};
 ghost use Rattle.addr2line_ranges.specs.DwarfFiles.{DwarfFile};
 ghost use Rattle.addr2line_ranges.specs.UnitFacts.{UnitInFile};
-ghost use Rattle.addr2line_root.specs.LastRanges.{AreLastOf, AreLastFor, counter_of};
+ghost use Rattle.addr2line_root.specs.LastRanges.{AreLastOf, AreLastFor, maker_of, counter_of, after_one_counter};
 
 use crate::last_program::LastProgram;
-use addr2line_ranges::{Counters, LastList, Probes, Reader};
+use addr2line_ranges::{LastList, Probes, Reader};
 use std::marker::Model;
 
 /// The ranges of a file that were read last, of a range list and of a line number program. A unit
@@ -34,10 +34,11 @@ impl<R: Reader> Model for LastRanges<R> {
 }
 
 impl<R: Reader> LastRanges<R> {
-    /// None yet. It takes no memory.
+    /// None yet, and no counter was made. It takes no memory.
     pub fn new() -> Self
         ensures files { (file : DwarfFile) → AreLastOf file result }
         ensures units { (unit : UnitInFile) → AreLastFor unit result }
+        ensures counters { (maker_of result).made ≡ 0 }
     {
         LastRanges {
             list: LastList::new(),
@@ -45,17 +46,11 @@ impl<R: Reader> LastRanges<R> {
         }
     }
 
-    /// The maker of counters of walks over the lines of a unit, which have the same name.
-    pub fn counters(&self) -> Counters
-        ensures { result ≡ counter_of self.now }
-    {
-        self.program.counters()
-    }
-
-    /// A counter of looks at what is kept of a unit. All units that may share what was read last
-    /// have counters of this name.
-    pub fn counter(&self) -> Probes
-        ensures { result ≡ record { name = counter_of self.now; count = 0 } }
+    /// One more counter, of looks at what is kept of a unit. All units that may share what was read
+    /// last have counters of this name, each its own.
+    pub fn counter(&mut self) -> Probes
+        ensures counter { result ≡ record { name = counter_of self.old; count = 0 } }
+        ensures made { self.new ≡ after_one_counter self.old }
     {
         self.program.counter()
     }

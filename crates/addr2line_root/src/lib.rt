@@ -15,7 +15,7 @@ mod rows;
 pub mod unit_lines;
 pub mod unit_texts;
 
-pub use addr2line_ranges::{ArangeIndex, Counters, LineRow};
+pub use addr2line_ranges::{ArangeIndex, LineRow};
 pub use counted_unit::{CountedUnit, Runs};
 pub use language::language_of;
 pub use last_ranges::LastRanges;

@@ -8,7 +8,7 @@ ghost use Rattle.addr2line_ranges.specs.UnitLines.{lines_of_unit};
 ghost use Rattle.addr2line_ranges.specs.ArangeIndexes.{IsIndexOf};
 ghost use Rattle.addr2line_root.specs.CountedRuns.{after_run};
 ghost use Rattle.addr2line_root.specs.LastPrograms.{HasHeaderInFile, IsLastProgramOf, IsLastProgramFor};
-ghost use Rattle.addr2line_root.specs.LastRanges.{AreLastOf, AreLastFor, counter_of};
+ghost use Rattle.addr2line_root.specs.LastRanges.{AreLastOf, AreLastFor, maker_of, counter_of};
 ghost use Rattle.addr2line_root.specs.RootRanges.{ranges_by_run, RunsForRanges};
 
 use crate::counted_unit::CountedUnit;
@@ -45,11 +45,12 @@ fn ranges_by_run<R: Reader>(
     last: &mut LastProgram<R>,
     probes: &Probes,
 ) -> Result<RootRanges, Error>
-    requires counter { probes.now.name ≡ last.old.counter }
+    requires counter { probes.now.name ≡ last.old.counters.name }
     requires last { IsLastProgramOf unit.old.unit.file last.old }
     ensures value { ReturnsOrNoMemory result (Ok (ranges_by_run probes.now.name unit.old.unit)) }
     ensures counted { OnOk result (unit.new ≡ after_run unit.old) }
     ensures last { HasHeaderInFile unit.old.unit → IsLastProgramOf unit.old.unit.file last.new }
+    ensures counters { last.new.counters ≡ last.old.counters }
 {
     let indexed = UnitLines::run_for_ranges(alloc, unit, probes)?;
     let LinesWithRanges { ranges, lines } = indexed;
@@ -69,13 +70,14 @@ fn ranges_by_program<R: Reader>(
     last: &mut LastProgram<R>,
     probes: &Probes,
 ) -> Result<RootRanges, Error>
-    requires counter { probes.now.name ≡ last.old.counter }
+    requires counter { probes.now.name ≡ last.old.counters.name }
     requires last { IsLastProgramFor unit.old.unit last.old }
     ensures ranges { ReturnsAsOrNoMemory (λ r. r.ranges) result
         (Ok (ranges_of_lines (lines_of_unit unit.old.unit))) }
     ensures lines { IfOk result
         (λ r. RunsForRanges probes.now.name r.ranges r.lines unit.old unit.new) }
     ensures last { HasHeaderInFile unit.old.unit → IsLastProgramOf unit.old.unit.file last.new }
+    ensures counters { last.new.counters ≡ last.old.counters }
 {
     if let Some(run) = last.run_for(&unit.unit_ref()) {
         return Ok(RootRanges {
@@ -94,13 +96,14 @@ fn or_by_program<R: Reader>(
     probes: &Probes,
     declared: Rc<Vec<Range>>,
 ) -> Result<RootRanges, Error>
-    requires counter { probes.now.name ≡ last.old.counter }
+    requires counter { probes.now.name ≡ last.old.counters.name }
     requires last { IsLastProgramFor unit.old.unit last.old }
     ensures ranges { ReturnsAsOrNoMemory (λ r. r.ranges) result
         (Ok (or_else declared.value.items (ranges_of_lines (lines_of_unit unit.old.unit)))) }
     ensures lines { IfOk result
         (λ r. RunsForRanges probes.now.name r.ranges r.lines unit.old unit.new) }
     ensures last { HasHeaderInFile unit.old.unit → IsLastProgramOf unit.old.unit.file last.new }
+    ensures counters { last.new.counters ≡ last.old.counters }
 {
     if declared.as_ref().is_empty() {
         return ranges_by_program(alloc, unit, last, probes);
@@ -115,7 +118,8 @@ fn or_by_program<R: Reader>(
 /// its lines, for which its line number program is run. Declared they are by its range list, or
 /// else by `.debug_aranges`, or else by low_pc and high_pc. Refused is an attribute whose address
 /// or list can't be read, the first of them, and then a range list. A list or a program that is the
-/// last one of the file isn't read or run again. The counter counts looks at the lines.
+/// last one of the file isn't read or run again. The counter counts looks at the lines; no other
+/// one is made.
 pub fn ranges_of_attributes<R: Reader>(
     alloc: Global,
     unit: &mut CountedUnit<R>,
@@ -133,6 +137,7 @@ pub fn ranges_of_attributes<R: Reader>(
     ensures lines { IfOk result
         (λ r. RunsForRanges probes.now.name r.ranges r.lines unit.old unit.new) }
     ensures last { HasHeaderInFile unit.old.unit → AreLastOf unit.old.unit.file last.new }
+    ensures counters { maker_of last.new ≡ maker_of last.old }
 {
     let whole = unit.unit_ref();
     let facts = facts_of(&whole, attributes)?;

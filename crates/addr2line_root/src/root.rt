@@ -7,7 +7,7 @@ ghost use Rattle.addr2line_ranges.specs.UnitLines.{lines_of_unit};
 ghost use Rattle.addr2line_ranges.specs.Contexts.{unit_of_root, unit_of_entry};
 ghost use Rattle.addr2line_ranges.specs.ArangeIndexes.{IsIndexOf};
 ghost use Rattle.addr2line_root.specs.LastPrograms.{HasHeaderInFile};
-ghost use Rattle.addr2line_root.specs.LastRanges.{AreLastOf, AreLastFor, counter_of};
+ghost use Rattle.addr2line_root.specs.LastRanges.{AreLastOf, AreLastFor, maker_of, counter_of};
 ghost use Rattle.addr2line_root.specs.RootRanges.{RunsForRanges, unit_with};
 
 use crate::counted_unit::CountedUnit;
@@ -50,7 +50,7 @@ impl UnitRoot {
     /// What the root of a unit says; nothing of a unit that others import. The unit's line number
     /// program is run only where the root declares no ranges. Refused is an attribute of the root,
     /// or else its range list. A list or a program that is the last one of the file isn't read or
-    /// run again. The counter counts looks at the lines.
+    /// run again. The counter counts looks at the lines; no other one is made.
     pub fn read<R: Reader>(
         alloc: Global,
         unit: &mut CountedUnit<R>,
@@ -68,6 +68,7 @@ impl UnitRoot {
         ensures lines { IfOk result
             (λ r. RunsForRanges probes.now.name r.ranges r.lines unit.old unit.new) }
         ensures last { HasHeaderInFile unit.old.unit → AreLastOf unit.old.unit.file last.new }
+        ensures counters { maker_of last.new ≡ maker_of last.old }
     {
         let facts = unit.unit().unit();
         if is_partial(&facts.header, root) {
@@ -98,6 +99,7 @@ impl UnitRoot {
         ensures lines { IfOk result
             (λ r. RunsForRanges probes.now.name r.ranges r.lines unit.old unit.new) }
         ensures last { HasHeaderInFile unit.old.unit → AreLastOf unit.old.unit.file last.new }
+        ensures counters { maker_of last.new ≡ maker_of last.old }
     {
         let found = ranges_of_attributes(alloc, unit, aranges, last, probes, attributes)?;
         let language = language_of(attributes)?;

@@ -11,7 +11,7 @@ ghost use Rattle.addr2line_root.specs.CountedRuns.{CountsRun};
 
 use crate::counted_unit::CountedUnit;
 use crate::files::texts_of_files;
-use crate::rows::run_program;
+use crate::rows::{BuilderSink, run_program};
 use addr2line_index::{LineIndex, LineSequence, Lines, LinesBuilder, Probes};
 use gimli_dwarf::UnitRef;
 use gimli_lines_rows::{Error, LineProgramHeader, Range, Reader};
@@ -187,9 +187,11 @@ fn lines_of_program<R: Reader>(
 {
     // (shows the prover what a unit's model says of its file)
     let _ = &unit.dwarf;
-    let mut builder = LinesBuilder::new(alloc);
-    let rows = run_program(&mut builder, header)?;
+    let builder = LinesBuilder::new(alloc);
+    let mut sink = BuilderSink { builder };
+    let rows = run_program(&mut sink, header)?;
     let files = texts_of_files(alloc, unit, rows.header())?;
+    let BuilderSink { builder } = sink;
     Ok(builder.finish(files))
 }
 

@@ -2,6 +2,7 @@
 //! can't look at an entry without being counted.
 
 ghost use Rattle.std.specs.Prelude.{◌≡◌, ◌+◌, ◌<◌, length, slice_get, Some};
+ghost use Rattle.addr2line_search.specs.ProbedLists.{after_counter};
 
 use crate::tally::{Mark, Tally};
 use std::marker::Model;
@@ -40,44 +41,39 @@ impl Probes {
 }
 
 /// A maker of counters that share one name, so that each of them counts looks at the lists of the
-/// others. No list and no counter leads to its maker: whoever searches lists that others made can't
-/// make itself a counter for them.
+/// others. It counts those that it makes. No list and no counter leads to its maker: whoever
+/// searches lists that others made can't make itself a counter for them.
 #[derive(Drop)]
 pub struct Counters {
-    mark: Mark,
+    tally: Tally,
 }
 
 impl Model for Counters {
-    ghost use Rattle.std.specs.Prelude.{ℕ};
+    ghost use Rattle.addr2line_search.specs.ProbedLists.{CounterMaker};
 
-    ghost Value = { ℕ };
+    ghost Value = { CounterMaker };
 
-    ghost view = { λ c. c.mark.name };
+    ghost view = { λ c. record { name = c.tally.name; made = c.tally.count } };
 }
 
 impl Counters {
-    /// A maker of counters with a name of their own.
-    pub fn new() -> Self {
+    /// A maker of counters with a name of their own. It has made none.
+    pub fn new() -> Self
+        ensures { result.made ≡ 0 }
+    {
         Counters {
-            mark: Tally::new().mark(),
+            tally: Tally::new(),
         }
     }
 
-    /// The same maker once more.
-    pub fn share(&self) -> Self
-        ensures { result ≡ self.now }
+    /// One more counter, at 0.
+    pub fn counter(&mut self) -> Probes
+        ensures counter { result ≡ record { name = self.old.name; count = 0 } }
+        ensures made { self.new ≡ after_counter self.old }
     {
-        Counters {
-            mark: Tally::named(&self.mark).mark(),
-        }
-    }
-
-    /// A counter at 0.
-    pub fn counter(&self) -> Probes
-        ensures { result ≡ record { name = self.now; count = 0 } }
-    {
+        self.tally.raise();
         Probes {
-            tally: Tally::named(&self.mark),
+            tally: Tally::named(&self.tally.mark()),
         }
     }
 }

@@ -37,8 +37,8 @@ impl Tally {
         Tally { seal: () }
     }
 
-    /// A counter at 0 of this name.
-    pub fn named(mark: &Mark) -> Self
+    // A counter at 0 of this name.
+    pub(crate) fn named(mark: &Mark) -> Self
         ensures { (result.name ≡ mark.now.name) × (result.count ≡ 0) }
     {
         Tally { seal: () }

@@ -37,15 +37,14 @@ of_same_unit P u v d same h = subst (λ (w : UnitInFile). P (unit_of_functions w
 
 -- other functions
 pub keeps_functions : (u : CountedUnit) (load : Result (Option SplitLoad) Error) (first : Option FirstAnswer)
-    (lines : Option (Result CountedLines Error)) (old new : KeptFunctions) (counter walks : ℕ)
-    → KeepsParses u load first lines old counter walks → KeepsFunctions u.unit load first new counter
-    → KeepsParses u load first lines new counter walks
-keeps_functions u load first lines old new counter walks keeps functions = record {
+    (lines : Option (Result CountedLines Error)) (old new : KeptFunctions) (counter : ℕ)
+    → KeepsParses u load first lines old counter → KeepsFunctions u.unit load first new counter
+    → KeepsParses u load first lines new counter
+keeps_functions u load first lines old new counter keeps functions = record {
   load_is = keeps.load_is;
   lines_are = keeps.lines_are;
   runs_are = keeps.runs_are;
   functions_are = functions;
-  walks_are = keeps.walks_are;
 }
 
 -- ---- a unit that was made just now
@@ -69,32 +68,29 @@ run_counted : (old new : CountedUnit) → new ≡ after_run old
     → new.runs.count ≡ old.runs.count + runs_for_lines old.unit.facts
 run_counted old new is = ap (λ (x : CountedUnit). x.runs.count) is
 
-module _ (u : CountedUnit) (ranges : List Range) (counter walks : ℕ) where
+module _ (u : CountedUnit) (ranges : List Range) (counter : ℕ) where
   keeps_root : (load : Result (Option SplitLoad) Error) (read : Option (Result CountedLines Error)) (k : KeptFunctions)
       → RunsForRanges counter ranges read (without_runs u) u
-      → load ≡ load_of u.unit → k ≡ nothing_kept → walks ≡ counter
-      → KeepsParses u load None read k counter walks
-  keeps_root load None k run is none same = record {
+      → load ≡ load_of u.unit → k ≡ nothing_kept → KeepsParses u load None read k counter
+  keeps_root load None k run is none = record {
     load_is = is;
     lines_are = tt;
     runs_are = none_counted u run;
     functions_are = keeps_nothing u.unit load None k counter none;
-    walks_are = same;
   }
-  keeps_root load (Some l) k run is none same = record {
+  keeps_root load (Some l) k run is none = record {
     load_is = is;
     lines_are = run.0;
     runs_are = from_none u.runs.count (runs_for_lines u.unit.facts) (run_counted (without_runs u) u run.2);
     functions_are = keeps_nothing u.unit load None k counter none;
-    walks_are = same;
   }
 
   pub keeps_new : (load : Result (Option SplitLoad) Error) (read lines : Option (Result CountedLines Error))
       (k : KeptFunctions) → lines ≡ read → RunsForRanges counter ranges read (without_runs u) u → load ≡ load_of u.unit
-      → k ≡ nothing_kept → walks ≡ counter → KeepsParses u load None lines k counter walks
-  keeps_new load read lines k same run is none named =
-      let P : Option (Result CountedLines Error) → Type 0 = λ l. KeepsParses u load None l k counter walks in
-      subst P (sym same) (keeps_root load read k run is none named)
+      → k ≡ nothing_kept → KeepsParses u load None lines k counter
+  keeps_new load read lines k same run is none =
+      let P : Option (Result CountedLines Error) → Type 0 = λ l. KeepsParses u load None l k counter in
+      subst P (sym same) (keeps_root load read k run is none)
 
   ranges_run : (read : Option (Result CountedLines Error)) → RunsForRanges counter ranges read (without_runs u) u
       → is_some read ≡ true → ranges ≡ ranges_of_lines (lines_of_unit u.unit)
@@ -120,17 +116,17 @@ ok_lines r = Ok r
 
 -- what is kept after a run
 pub keeps_run : (u later : CountedUnit) (load : Result (Option SplitLoad) Error) (first : Option FirstAnswer)
-    (old new : Option (Result CountedLines Error)) (k : KeptFunctions) (counter walks : ℕ)
+    (old new : Option (Result CountedLines Error)) (k : KeptFunctions) (counter : ℕ)
     (result : Result (Unit {0}) Error) (read : Result CountedLines Error)
-    → KeepsParses u load first old k counter walks → is_some old ≡ false
+    → KeepsParses u load first old k counter → is_some old ≡ false
     → ok_lines (counted_lines counter (lines_of_unit u.unit)) ≡ ok_lines read → later ≡ after_run u
     → OnOk result (new ≡ Some read) → OnErr result (read ≡ Err Memory) → read ≢ Err Memory
-    → KeepsParses later load first new k counter walks
-keeps_run u later load first old new k counter walks result read before nothing found counted ok err not =
+    → KeepsParses later load first new k counter
+keeps_run u later load first old new k counter result read before nothing found counted ok err not =
     let lines : read ≡ counted_lines counter (lines_of_unit u.unit) = cc in
     let kept : new ≡ Some read = kept_answer result read new ok err not in
     let none : u.runs.count ≡ 0 = before.runs_are ∙ ap (runs_if_kept u.unit.facts) nothing in
-    let after : KeepsParses (after_run u) load first new k counter walks =
+    let after : KeepsParses (after_run u) load first new k counter =
     record {
       load_is = before.load_is;
       lines_are = subst (IsKeptOf (counted_lines counter (lines_of_unit u.unit))) (sym kept) lines;
@@ -139,6 +135,5 @@ keeps_run u later load first old new k counter walks result read before nothing 
           (ap (λ n. n + runs_for_lines u.unit.facts) none)
           ∙ sym (ap (λ o. runs_if_kept u.unit.facts (is_some o)) kept);
       functions_are = before.functions_are;
-      walks_are = before.walks_are;
     } in
-    subst (λ (x : CountedUnit). KeepsParses x load first new k counter walks) (sym counted) after
+    subst (λ (x : CountedUnit). KeepsParses x load first new k counter) (sym counted) after

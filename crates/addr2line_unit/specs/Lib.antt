@@ -57,4 +57,5 @@ pub use Rattle.addr2line_root.specs.ProbedLists
 pub use Rattle.addr2line_root.specs.Searches
 pub mod KeptFunctions
 pub mod ContextUnits
+pub mod LineWalks
 pub mod ResolvedUnits

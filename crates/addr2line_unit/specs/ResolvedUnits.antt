@@ -160,15 +160,14 @@ pub record KeepsFunctions (u : UnitInFile) (load : Result (Option SplitLoad) Err
   pub are_counted : AreCountedBy counter k
 
 -- What is kept of a unit is its load, its lines with this counter, for which its program was run
--- once, and its functions with the same counter; counters of walks over its lines have that name.
+-- once, and its functions with the same counter.
 pub record KeepsParses (u : CountedUnit) (load : Result (Option SplitLoad) Error)
     (first : Option FirstAnswer) (lines : Option (Result CountedLines Error))
-    (functions : KeptFunctions) (counter walks : ℕ) : Type 0 where
+    (functions : KeptFunctions) (counter : ℕ) : Type 0 where
   pub load_is : load ≡ load_of u.unit
   pub lines_are : IsKeptOf (counted_lines counter (lines_of_unit u.unit)) lines
   pub runs_are : u.runs.count ≡ runs_if_kept u.unit.facts (is_some lines)
   pub functions_are : KeepsFunctions u.unit load first functions counter
-  pub walks_are : walks ≡ counter
 
 -- ---- places
 

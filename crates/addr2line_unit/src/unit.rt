@@ -1,6 +1,6 @@
 //! A unit of a context, and what was read of it.
 
-ghost use Rattle.std.specs.Prelude.{◌≡◌, ◌≢◌, ◌<◌, ◌∷◌, ℕ, [], true, length, Some, None, Ok, Err, IfSome, MatchOption, IfOk, OnOk, OnErr, IfErr, option_map, option_and_then, is_some};
+ghost use Rattle.std.specs.Prelude.{◌≡◌, ◌≢◌, ◌<◌, true, length, Some, None, Ok, Err, IfSome, MatchOption, IfOk, OnOk, OnErr, IfErr, option_map, option_and_then, is_some};
 ghost use Rattle.addr2line_functions.specs.Calls.{Returns, ReturnsAs, ReturnsAsOrNoMemory, ReturnsOrNoMemory};
 ghost use Rattle.addr2line_functions.specs.Error.TheVariants.{Memory};
 ghost use Rattle.addr2line_functions.specs.Results.{and_then};
@@ -9,15 +9,14 @@ ghost use Rattle.addr2line_functions.specs.BorrowedFrames.{frames_left};
 ghost use Rattle.addr2line_functions.specs.BorrowedLocations.{location_value};
 ghost use Rattle.addr2line_root.specs.ArangeIndexes.{IsIndexOf};
 ghost use Rattle.addr2line_root.specs.LastPrograms.{HasHeaderInFile};
-ghost use Rattle.addr2line_root.specs.LastRanges.{AreLastOf, AreLastFor};
+ghost use Rattle.addr2line_root.specs.LastRanges.{AreLastOf, AreLastFor, maker_of};
 ghost use Rattle.addr2line_root.specs.LineIndexes.{counted_lines};
-ghost use Rattle.addr2line_functions.specs.LineCursors.{lines_left};
-ghost use Rattle.addr2line_functions.specs.Lines.{lines_between};
-ghost use Rattle.addr2line_functions.specs.Stretches.{stretch_of_row};
+ghost use Rattle.addr2line_root.specs.ProbedLists.{after_counter};
 ghost use Rattle.addr2line_root.specs.CountedRuns.{without_runs};
 ghost use Rattle.addr2line_root.specs.RootRanges.{RunsForRanges, unit_with};
 ghost use Rattle.addr2line_root.specs.Searches.{AtMostProbes};
 ghost use Rattle.addr2line_unit.specs.KeptFunctions.{kept_at, plain_functions, plain_calls, count_of_functions, number_in, number_probes, function_at_number, FindsChain, kept_chain_probes, frames_by_numbers};
+ghost use Rattle.addr2line_unit.specs.LineWalks.{plain_lines, WalkBegins, WalkGoesOn, cursor_probes, StepsOn};
 ghost use Rattle.addr2line_unit.specs.ResolvedUnits.{HasRoot, main_unit, pending_load, decided, first_answer, answer_or_none, unit_of_functions, functions_of, calls_of_number, if_kept, runs_of_unit, row_or_refusal, row_in_kept, lines_probes, kept_probes, location_of_row, with_functions, with_calls, with_probes, with_chain, with_unit_answer, without_answer, new_unit, KeepsLines, KeepsNoFunctions, RunsForRangesAlone};
 
 use crate::kept::Kept;
@@ -29,7 +28,7 @@ use addr2line_functions::{
     RowStretch, Unit, calls_of_function, functions_of_unit,
 };
 use addr2line_root::{
-    ArangeIndex, CountedUnit, Counters, LastRanges, LineRow, OwnedUnit, Runs, UnitLines, UnitRoot,
+    ArangeIndex, CountedUnit, LastRanges, LineRow, OwnedUnit, Runs, UnitLines, UnitRoot,
 };
 use std::alloc::Global;
 use std::marker::Model;
@@ -51,8 +50,6 @@ pub struct ResUnit<R: Reader> {
     functions: UnitFunctions<R>,
     /// Looks at what is kept.
     probes: Probes,
-    /// The maker of counters of walks over the lines.
-    walks: Counters,
     /// The numbers of the calls that were found last, the outermost first.
     chain: Vec<usize>,
 }
@@ -68,7 +65,6 @@ impl<R: Reader> Drop for ResUnit<R> {
             lines: _,
             functions: _,
             probes: _,
-            walks: _,
             chain: _,
         } = self;
     }
@@ -102,7 +98,7 @@ impl<R: Reader> Model for ResUnit<R> {
     } };
 
     ghost invariant = { λ u.
-        KeepsParses u.main u.load u.first u.lines u.functions u.probes.name u.walks };
+        KeepsParses u.main u.load u.first u.lines u.functions u.probes.name };
 }
 
 // The row of an address in lines, or the refusal of them; none where they aren't kept.
@@ -120,6 +116,39 @@ fn row_in_kept(
         Some(Ok(lines)) => Ok(lines.index().find_row(probe, probes)),
         Some(Err(error)) => Err(*error),
         None => Ok(None),
+    }
+}
+
+// Where a walk over the rows of lines from a low end on begins; at none where they are refused, or
+// aren't kept.
+fn cursor_in_kept(lines: &Kept<UnitLines>, low: u64, probes: &mut Probes) -> Option<LineCursor>
+    requires counter { IfSome lines.now (λ r. IfOk r (λ l. probes.old.name ≡ l.counter)) }
+    ensures rows { IfSome lines.now (λ r. WalkBegins low (plain_lines r) result) }
+    ensures cost { MatchOption lines.now (probes.new ≡ probes.old)
+        (λ r. AtMostProbes (cursor_probes (plain_lines r)) probes.old probes.new) }
+{
+    match lines.result() {
+        Some(Ok(lines)) => Some(lines.index().cursor_from(low, probes)),
+        Some(Err(_)) | None => None,
+    }
+}
+
+// The next row of such a walk between two ends; none where the lines are refused, or aren't kept.
+fn next_in_kept(
+    lines: &Kept<UnitLines>,
+    cursor: LineCursor,
+    low: u64,
+    high: u64,
+    probes: &mut Probes,
+) -> Option<(RowStretch, LineCursor)>
+    requires counter { IfSome lines.now (λ r. IfOk r (λ l. probes.old.name ≡ l.counter)) }
+    ensures row { IfSome lines.now (λ r. WalkGoesOn low high cursor (plain_lines r) result) }
+    ensures cost { MatchOption lines.now ((result ≡ None) × (probes.new ≡ probes.old))
+        (λ r. StepsOn cursor (plain_lines r) result probes.old probes.new) }
+{
+    match lines.result() {
+        Some(Ok(lines)) => lines.index().next_between(cursor, low, high, probes),
+        Some(Err(_)) | None => None,
     }
 }
 
@@ -167,7 +196,7 @@ impl<R: Reader> ResUnit<R> {
     /// The unit, with what its root says. Its line number program is run only where its ranges are
     /// those of its lines, which are then kept. Refused by its root or its ranges. A range list or
     /// a program that is the last one of the file isn't read or run again, and the lines of such a
-    /// program are shared where the unit's are the same.
+    /// program are shared where the unit's are the same. One counter is made, that of the unit.
     pub fn read(
         alloc: Global,
         main: OwnedUnit<R>,
@@ -182,25 +211,22 @@ impl<R: Reader> ResUnit<R> {
         ensures lines { IfOk result RunsForRangesAlone }
         ensures functions { IfOk result KeepsNoFunctions }
         ensures last { HasHeaderInFile main → AreLastOf main.file last.new }
+        ensures counters { maker_of last.new ≡ after_counter (maker_of last.old) }
     {
         let probes = last.counter();
-        let walks = last.counters();
         let mut unit = CountedUnit::new(main);
         let root = UnitRoot::read(alloc, &mut unit, entry, aranges, last, &probes)?;
-        ResUnit::of_root(alloc, unit, root, probes, walks)
+        ResUnit::of_root(alloc, unit, root, probes)
     }
 
-    // The unit with what its root says, what was run for that, the counter of looks at it, and the
-    // maker of counters of walks.
+    // The unit with what its root says, what was run for that, and the counter of looks at it.
     fn of_root(
         alloc: Global,
         main: CountedUnit<R>,
         root: UnitRoot,
         probes: Probes,
-        walks: Counters,
     ) -> Result<Self, Error>
-        requires runs { RunsForRanges probes.name root.ranges root.lines (without_runs main) main }
-        requires walks { walks ≡ probes.name }
+        requires { RunsForRanges probes.name root.ranges root.lines (without_runs main) main }
         ensures unit { ReturnsAsOrNoMemory (λ u. u.value) result
             (Ok (without_answer main.unit.file (unit_with main.unit root))) }
         ensures lines { IfOk result RunsForRangesAlone }
@@ -222,7 +248,6 @@ impl<R: Reader> ResUnit<R> {
             lines,
             functions: UnitFunctions::not_read(alloc),
             probes,
-            walks,
             chain: Vec::new(alloc),
         })
     }
@@ -299,33 +324,32 @@ impl<R: Reader> ResUnit<R> {
         row_in_kept(&self.lines, probe, &mut self.probes)
     }
 
-    /// Where a walk over the rows of the lines, which are kept, from a low end on begins. It is a
-    /// search, which isn't counted as a look of a lookup.
-    pub fn cursor_from(&self, lines: &LineIndex, low: u64) -> LineCursor
-        requires { lines.now.counter ≡ self.now.probes.name }
-        ensures { (high : ℕ) → lines_left lines.now.lines low high result
-            ≡ lines_between lines.now.lines low high }
+    /// Where a walk over the rows of the lines that are kept begins, from a low end on; at none where
+    /// they are refused. It is one search among the sequences.
+    pub fn cursor_from(&mut self, low: u64) -> Option<LineCursor>
+        ensures unit { self.new ≡ with_probes self.old self.new.probes }
+        ensures rows { KeepsLines self.old
+            → WalkBegins low self.old.value.unit.lines result }
+        ensures cost { AtMostProbes (cursor_probes self.old.value.unit.lines)
+            self.old.probes self.new.probes }
     {
-        let mut walk = self.walks.counter();
-        lines.cursor_from(low, &mut walk)
+        cursor_in_kept(&self.lines, low, &mut self.probes)
     }
 
     /// The next row of such a walk between two ends, and how far it came with it.
     pub fn next_between(
-        &self,
-        lines: &LineIndex,
+        &mut self,
         cursor: LineCursor,
         low: u64,
         high: u64,
     ) -> Option<(RowStretch, LineCursor)>
-        requires { lines.now.counter ≡ self.now.probes.name }
-        ensures { MatchOption result (lines_left lines.now.lines low high cursor ≡ [])
-            (λ f. lines_left lines.now.lines low high cursor
-            ≡ stretch_of_row lines.now.lines.files f.0
-            ∷ lines_left lines.now.lines low high f.1) }
+        ensures unit { self.new ≡ with_probes self.old self.new.probes }
+        ensures row { KeepsLines self.old
+            → WalkGoesOn low high cursor self.old.value.unit.lines result }
+        ensures cost { StepsOn cursor self.old.value.unit.lines result
+            self.old.probes self.new.probes }
     {
-        let mut walk = self.walks.counter();
-        lines.next_between(cursor, low, high, &mut walk)
+        next_in_kept(&self.lines, cursor, low, high, &mut self.probes)
     }
 
     /// The place of a row in the lines that are kept, unless they are refused. Nothing is searched.

@@ -1,6 +1,6 @@
--- Attributes whose name and form are a byte each.
+-- Attributes whose name and form are a byte each, and codes of one byte.
 use Rattle.std.proofs.Common.{◌≡◌, ◌≢◌, ℕ, ◌+◌, ◌*◌, ◌<◌, ◌≤◌, eqb, ltb, Bool, false, cond, ◌&&◌, List, [], ◌∷◌, length, take, drop, get_or, Option, Some, None, Result, Ok, Err, refl, sym, ap, ◌∙◌, arith}
-use Rattle.std.specs.Prelude.{◌%◌}
+use Rattle.std.specs.Prelude.{◌%◌, ◌^◌}
 use Rattle.std.specs.Option.{ok_or}
 use Rattle.std.proofs.Math.Nat.{mod-eq_of_lt}
 use Rattle.std.proofs.lemmas.Bool.{lt-ltb, ne_eqb}
@@ -11,7 +11,7 @@ use Rattle.gimli_core_readers.specs.Fault.TheVariants.{Cut, Bad}
 use Rattle.gimli_core_readers.specs.View.{View, after}
 use Rattle.gimli_core_readers.specs.Parsers.{proceed, give, branch, ◌>>=◌}
 use Rattle.gimli_core_readers.specs.Leb128.{unsigned_of, unsigned_at}
-use Rattle.gimli_core_readers.specs.NumberParsers.{number_and_rest, unsigned_16}
+use Rattle.gimli_core_readers.specs.NumberParsers.{number_and_rest, unsigned, unsigned_16}
 use Rattle.gimli_core_readers.proofs.LebStrings.{string_at-last}
 use Rattle.gimli_core_readers.proofs.ViewCuts.{after-after}
 use Rattle.gimli_core_abbrev.specs.TableParsing.{implicit_const_form, implicit_const, attribute_of, attribute, IsShortAttribute}
@@ -30,6 +30,24 @@ one_byte v n rest e low =
     (ok_or string (cond (ltb (length (n ∷ rest)) 3) Cut Bad)))) (string_at-last n (take 2 rest) low)
     ∙ ap (λ (k : ℕ). numbered v (cond (ltb k 65536) (Ok (k, 1)) (Err Bad))) number
     ∙ ap (λ (b : Bool). numbered v (cond b (Ok (n, 1)) (Err Bad))) (lt-ltb n 65536 (omega (arith, low)))
+
+pub one_byte_code : (v : View) (n : ℕ) (rest : List ℕ) → v.bytes ≡ n ∷ rest → n < 128 → unsigned v ≡ Ok (n, after 1 v)
+unfolding unsigned
+one_byte_code v n rest e low =
+    let small : n % 128 ≡ n = mod-eq_of_lt low in
+    let number : n % 128 * 1 + 0 ≡ n = omega (arith, small) in
+    ap (λ (bytes : List ℕ). numbered v (unsigned_at 10 (2 ^ 64) bytes)) e
+    ∙ ap (λ (string : Option (List ℕ)). numbered v (unsigned_of (2 ^ 64)
+    (ok_or string (cond (ltb (length (n ∷ rest)) 10) Cut Bad)))) (string_at-last n (take 9 rest) low)
+    ∙ ap (λ (k : ℕ). numbered v (cond (ltb k (2 ^ 64)) (Ok (k, 1)) (Err Bad))) number
+    ∙ ap (λ (b : Bool). numbered v (cond b (Ok (n, 1)) (Err Bad))) (lt-ltb n (2 ^ 64) (omega (arith, low)))
+
+-- the first byte of these, as a code
+pub first_code : (v : View) (bytes : List ℕ) (n d : ℕ) → bytes ≡ v.bytes → 1 ≤ length bytes → n ≡ get_or bytes 0 d
+    → n < 128 → unsigned v ≡ Ok (n, after 1 v)
+first_code v [] n d same some is low = absurd (omega (arith, some))
+first_code v (b ∷ bytes) n d same some is low =
+    one_byte_code v n bytes (sym same ∙ ap (λ (k : ℕ). k ∷ bytes) (sym is)) low
 
 -- two bytes below 128 are a name and a form
 pair_read : (v : View) (name form : ℕ) (rest : List ℕ) → v.bytes ≡ name ∷ form ∷ rest → name < 128 → form < 128

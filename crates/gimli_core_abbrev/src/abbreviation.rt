@@ -1,14 +1,14 @@
 //! The declarations of an abbreviation table.
 
-ghost use Rattle.std.specs.Prelude.{◌≡◌, ◌==◌, List, [], ◌∷◌, ◌++◌, option_map, is_some, IfOk, IfErr, IfSome, IfNone, OnOk};
+ghost use Rattle.std.specs.Prelude.{◌≡◌, ◌==◌, ◌++◌, option_map, is_some, IfOk, IfErr, IfSome, IfNone, OnOk};
 ghost use Rattle.std.specs.Option.{option_to_list};
 ghost use Rattle.gimli_core_readers.specs.Calls.{Reads, ReturnsAs, ReturnsAsOrNoMemory};
+ghost use Rattle.gimli_core_readers.specs.NumberParsers.{unsigned};
 ghost use Rattle.gimli_core_readers.specs.Parsers.{map_value};
 ghost use Rattle.gimli_core_abbrev.specs.TableParsing.{implicit_const_form, implicit_const, attribute, IsShortAttribute, attributes, children, declaration_of, declaration};
 ghost use Rattle.gimli_core_readers.specs.Error.TheVariants.{Memory};
 ghost use Rattle.gimli_core_abbrev.specs.AbbreviationViews.{attribute_view, added_view, Extends, with_attributes, nothing};
-ghost use Rattle.gimli_core_abbrev.specs.DeclarationFacts.{FitsInBytes, KnowsRead, KnowsAttributes};
-ghost use Rattle.gimli_core_abbrev.specs.Declarations.{Attribute};
+ghost use Rattle.gimli_core_abbrev.specs.DeclarationFacts.{KnowsAttributes};
 ghost use Rattle.gimli_core_abbrev.specs.FormWidths.{width_of};
 
 use crate::declaration::{CodedHead, Head};
@@ -197,64 +197,43 @@ fn parse_attribute<R: Reader>(input: &mut R) -> Result<Option<AttributeSpecifica
     parse_long_attribute(input)
 }
 
-// An attribute that was appended to a list, and the facts about its declaration's attributes so
-// far.
-#[derive(Clone, Copy, Debug)]
-struct Pushed {
-    attribute: AttributeSpecification,
-    facts: AttributeFacts,
-}
-
 // Appends an attribute to a list, if there is one.
 #[inline(always)]
 fn push(
     attribute: Option<AttributeSpecification>,
     found: &mut Vec<AttributeSpecification>,
-    facts: AttributeFacts,
-) -> Result<Option<Pushed>, Error>
-    requires { FitsInBytes facts }
-    ensures value { IfOk result (λ p. option_map (λ p. attribute_view p.attribute) p
-        ≡ option_map attribute_view attribute) }
-    ensures items { IfOk result (λ p. found.new.items
-        ≡ found.old.items ++ option_to_list (option_map (λ p. p.attribute) p)) }
-    ensures knows { IfOk result (λ p. IfSome p (λ p. FitsInBytes p.facts
-        × ((before : List Attribute) → KnowsRead facts before
-        → KnowsRead p.facts (before ++ attribute_view p.attribute ∷ [])))) }
+) -> Result<Option<AttributeSpecification>, Error>
+    ensures value { IfOk result (λ a. a ≡ attribute) }
+    ensures items { IfOk result (λ a. found.new.items
+        ≡ found.old.items ++ option_to_list a) }
     ensures err { IfErr result (λ e. e ≡ Memory) }
 {
-    let Some(attribute) = attribute else {
-        return Ok(None);
-    };
-    found.push(attribute)?;
-    let facts = facts.with(attribute);
-    Ok(Some(Pushed { attribute, facts }))
+    if let Some(attribute) = attribute {
+        found.push(attribute)?;
+    }
+    Ok(attribute)
 }
 
-// Reads an attribute from borrowed bytes, which stay in registers, and appends it to a list.
+// Reads an attribute from borrowed bytes, and appends it to a list. None at the pair of zeros that
+// ends them.
 #[inline(always)]
 fn push_next<E: Endianity>(
     place: &mut EndianSlice<'_, E>,
     found: &mut Vec<AttributeSpecification>,
-    facts: AttributeFacts,
-) -> Result<Option<Pushed>, Error>
-    requires { FitsInBytes facts }
-    ensures value { ReturnsAsOrNoMemory
-        (λ p. (option_map (λ p. attribute_view p.attribute) p, place.new)) result
+) -> Result<Option<AttributeSpecification>, Error>
+    ensures value { ReturnsAsOrNoMemory (λ a. (option_map attribute_view a, place.new)) result
         (attribute place.old) }
-    ensures items { IfOk result (λ p. found.new.items
-        ≡ found.old.items ++ option_to_list (option_map (λ p. p.attribute) p)) }
-    ensures knows { IfOk result (λ p. IfSome p (λ p. FitsInBytes p.facts
-        × ((before : List Attribute) → KnowsRead facts before
-        → KnowsRead p.facts (before ++ attribute_view p.attribute ∷ [])))) }
+    ensures items { IfOk result (λ a. found.new.items
+        ≡ found.old.items ++ option_to_list a) }
 {
     if let Some(attribute) = short_attribute(place.slice()) {
         place.advance(2);
-        return Ok(push(attribute, found, facts)?);
+        return Ok(push(attribute, found)?);
     }
     let mut next = place.range_from(0..);
     let attribute = parse_long_attribute(&mut next)?;
     *place = next;
-    Ok(push(attribute, found, facts)?)
+    Ok(push(attribute, found)?)
 }
 
 // Reads the attributes of a declaration, and appends them to a list.
@@ -263,21 +242,16 @@ fn push_next<E: Endianity>(
 fn parse_attributes<E: Endianity>(
     input: &mut EndianSlice<'_, E>,
     found: &mut Vec<AttributeSpecification>,
-) -> Result<AttributeFacts, Error>
+) -> Result<(), Error>
     ensures value { ReturnsAsOrNoMemory
         (λ _. (added_view found.old.items found.new.items, input.new)) result
         (attributes input.old) }
     ensures extends { OnOk result (Extends found.old.items found.new.items) }
-    ensures knows { IfOk result (λ f. FitsInBytes f
-        × KnowsRead f (added_view found.old.items found.new.items)) }
 {
-    let mut facts = AttributeFacts::none();
     let mut place = input.range_from(0..);
-    'pushing: while let Some(pushed) = push_next(&mut place, found, facts)? {
-        facts = pushed.facts;
-    }
+    'pushing: while push_next(&mut place, found)?.is_some() {}
     *input = place;
-    Ok(facts)
+    Ok(())
 }
 
 // Skips the attributes of a declaration.
@@ -302,6 +276,21 @@ fn parse_children<R: Reader>(input: &mut R) -> Result<bool, Error>
     }
 }
 
+// Reads a code: one byte in nearly all declarations.
+#[inline(always)]
+fn parse_code<R: Reader>(input: &mut R) -> Result<u64, Error>
+    ensures { Reads result (R.view input.old) (R.view input.new) (unsigned (R.view input.old)) }
+{
+    match input.as_bytes() {
+        [code, ..] if *code < 128 => {
+            let code = u64::from(*code);
+            input.advance(1);
+            Ok(code)
+        }
+        _ => input.read_uleb128(),
+    }
+}
+
 // Reads what follows a code. The attributes are appended to a list.
 #[inline(always)]
 #[tactic(auto, unfolding(crate::specs::TableParsing::declaration_of))]
@@ -322,7 +311,9 @@ fn parse_after_code<E: Endianity>(
         return Err(Error::AbbreviationTagZero);
     }
     let has_children = parse_children(input)?;
-    let facts = parse_attributes(input, attributes)?;
+    let begin = attributes.len();
+    parse_attributes(input, attributes)?;
+    let facts = AttributeFacts::of(&attributes[begin..]);
     let head = Head::new(tag, has_children, facts);
     Ok(CodedHead { code, head })
 }
@@ -350,7 +341,7 @@ pub(crate) fn parse<E: Endianity>(
     if input.is_empty() {
         return Ok(None);
     }
-    let code = input.read_uleb128()?;
+    let code = parse_code(input)?;
     if code == 0 {
         return Ok(None);
     }

@@ -1,6 +1,6 @@
-//! Facts about the attributes of a declaration, gathered while they are read.
+//! Facts about the attributes of a declaration, found once these are read.
 
-ghost use Rattle.std.specs.Prelude.{◌≡◌, ◌||◌, List, [], ◌∷◌, ◌++◌};
+ghost use Rattle.std.specs.Prelude.{◌≡◌, ◌||◌, List, [], ◌∷◌, ◌++◌, map};
 ghost use Rattle.gimli_core_abbrev.specs.AttributeViews.{attribute_view};
 ghost use Rattle.gimli_core_abbrev.specs.Declarations.{Attribute};
 ghost use Rattle.gimli_core_abbrev.specs.DeclarationFacts.{is_of_ranges, FitsInBytes, KnowsRead};
@@ -42,6 +42,19 @@ impl AttributeFacts {
             counted: 0,
             room: MOST_COUNTED,
         }
+    }
+
+    // The facts about attributes.
+    #[inline(always)]
+    pub(crate) fn of(attributes: &[AttributeSpecification]) -> Self
+        ensures knows { KnowsRead result (map attribute_view attributes.now) }
+        ensures fits { FitsInBytes result }
+    {
+        let mut facts = AttributeFacts::none();
+        for attribute in attributes {
+            facts = facts.with(*attribute);
+        }
+        facts
     }
 
     // The facts with one more attribute.

@@ -1,5 +1,5 @@
 -- What a sink has taken on the way of a program.
-use Rattle.std.proofs.Common.{◌≡◌, ◌≢◌, ℕ, ◌-◌, ◌<◌, ◌≤◌, inl, inr, Bool, true, false, List, [], ◌∷◌, ◌++◌, map, length, Option, None, Some, Result, Ok, Err, IfErr, refl, sym, ap, subst, ◌∙◌, arith, append_assoc, append-nil}
+use Rattle.std.proofs.Common.{◌≡◌, ℕ, ◌-◌, ◌<◌, ◌≤◌, inl, inr, Bool, true, false, not, cond, List, [], ◌∷◌, ◌++◌, map, length, None, Some, Result, Ok, Err, IfErr, refl, sym, ap, subst, ◌∙◌, arith, append_assoc, append-nil}
 use Rattle.std.proofs.lemmas.List.{map-append}
 use Rattle.std.specs.Result.{IsErrAnd}
 use Rattle.gimli_lines_machine.specs.Error.{Error}
@@ -12,9 +12,9 @@ use Rattle.gimli_lines_machine.specs.declared.rules.LineRules.{LineRules}
 use Rattle.gimli_lines_rows.specs.ProgramInstructions.{rules_of}
 use Rattle.gimli_lines_rows.specs.ProgramRows.{Row, RemainingRows, TakesNoFile, rows_to_come, last_row, next_step, Path, stays, shows, passes, OneStep}
 use Rattle.gimli_lines_rows.specs.NumericSteps.{rows_at}
-use Rattle.gimli_lines_rows.specs.RowSinks.{Takes, in_form, with_last, last_header, GivesOnTheWay, GivesRows, RefusedByRows}
+use Rattle.gimli_lines_rows.specs.RowSinks.{Takes, in_form, GivesRow, with_last, last_header, GivesOnTheWay, GivesRows, RefusedByRows}
 use Rattle.gimli_lines_rows.proofs.LineRowSteps.{come_nothing, come_row, step_end, step_fault, step_smaller}
-use Rattle.gimli_lines_rows.proofs.RowPaths.{path_comes, path_path}
+use Rattle.gimli_lines_rows.proofs.RowPaths.{path_comes, path_passes, path_path}
 use Rattle.gimli_lines_rows.proofs.ResumedRows.{path_at_most, path_rules}
 use Rattle.gimli_lines_rows.proofs.StepsAtOnce.{path_leaves, over_reader}
 use Rattle.gimli_lines_rows.proofs.ProgramHeaders.{path_keeps_header, header_at_end}
@@ -41,6 +41,22 @@ pub takes_as_many : {S K : Type 0} (H : S → List K → Type 0) (a b c : S) (xs
     → ((rows : List K) → H b rows → H c rows) → Takes H a c xs
 takes_as_many H a b c xs first same = λ rows taken. same (rows ++ xs) (first rows taken)
 
+-- a row that isn't shown is given to none
+pub hidden_given : {A S K : Type 0} (form : Registers → K) (H : S → List K → Type 0) (x : A) (r : Registers) (s : S)
+    → r.is_hidden ≡ true → GivesRow {A = A} form H (Ok x) r s s
+hidden_given {K = K} form H x r s hidden =
+    let none : List K = [] in
+    subst (λ (b : Bool). Takes H s s (cond (not b) (form r ∷ []) none)) (sym hidden) (takes_none H s)
+
+-- one that is, which the sink takes
+pub shown_given : {A S K : Type 0} (form : Registers → K) (H : S → List K → Type 0) (x : A) (r row : Registers)
+    (before after : S) → r.is_hidden ≡ false → row ≡ r → Takes H before after (form row ∷ [])
+    → GivesRow {A = A} form H (Ok x) r before after
+shown_given {K = K} form H x r row before after shown same takes =
+    let none : List K = [] in
+    subst (λ (b : Bool). Takes H before after (cond (not b) (form r ∷ []) none)) (sym shown)
+    (subst (λ (q : Registers). Takes H before after (form q ∷ [])) same takes)
+
 -- ---- a run at once
 
 -- what the sink has taken on the way so far
@@ -63,6 +79,22 @@ one_on_the_way limit form H old mid new before middle after p path takes = recor
   rows = p.rows ++ last_row new ∷ [];
   path = path_path p.path path;
   takes = takes_rows form H before middle after p.rows (last_row new ∷ []) p.takes takes;
+}
+
+-- a step more, with the row that it shows
+pub step_on_the_way : {S K : Type 0} (limit : ℕ) (form : Registers → K) (H : S → List K → Type 0)
+    (old mid new : RemainingRows) (before middle after : S) (shown : Bool) (r last : Registers)
+    → OnTheWay limit form H old mid before middle → next_step limit mid ≡ Ok (Some shown, new)
+    → new.last ≡ cond shown r last → Takes H middle after (cond shown (form r ∷ []) [])
+    → OnTheWay limit form H old new before after
+step_on_the_way limit form H old mid new before middle after true r last p e is takes =
+    one_on_the_way limit form H old mid new before middle after p (shows mid new new [] e (stays new))
+    (subst (λ (q : Registers). Takes H middle after (form q ∷ [])) (sym is) takes)
+step_on_the_way limit form H old mid new before middle after false r last p e is takes = record {
+  rows = p.rows;
+  path = path_passes p.path e;
+  takes = subst (λ (rows : List Row). Takes H before after (in_form form rows)) (append-nil p.rows)
+      (takes_rows form H before middle after p.rows [] p.takes takes);
 }
 
 -- no further row

@@ -1,5 +1,5 @@
 -- What giving rows to a sink makes of it, and of what is left of them.
-use Rattle.std.specs.Prelude.{◌≡◌, ◌≢◌, ◌⊎◌, ℕ, Bool, List, [], ◌∷◌, ◌++◌, map, Result, Ok, Err, if◌then◌else◌}
+use Rattle.std.specs.Prelude.{◌≡◌, ◌≢◌, ◌⊎◌, ℕ, Bool, false, not, List, [], ◌∷◌, ◌++◌, map, Result, Ok, Err, if◌then◌else◌}
 use Rattle.gimli_lines_machine.specs.Error.{Error}
 use Rattle.gimli_lines_machine.specs.Error.TheVariants.{Memory}
 use Rattle.gimli_lines_machine.specs.Repetition.{answer}
@@ -20,6 +20,16 @@ Takes {K = K} HasTaken old new more = (rows : List K) → HasTaken old rows
 -- rows in the form in which a sink keeps them
 abbrev pub in_form : {K : Type 0} → (Registers → K) → List Row → List K
 in_form form rows = map (λ (r : Row). form r.registers) rows
+
+-- The row of these registers was given to a sink, where it is shown; refused, the sink has taken no
+-- more.
+abbrev pub GivesRow : {A S K : Type 0} → (Registers → K) → (S → List K → Type 0)
+    → Result A Error → Registers → S → S → Type 0
+GivesRow form HasTaken (Ok x) r before after =
+    Takes HasTaken before after (if not r.is_hidden then form r ∷ [] else [])
+GivesRow {K = K} form HasTaken (Err e) r before after =
+    (e ≡ Memory) × (r.is_hidden ≡ false)
+    × ((rows : List K) → HasTaken before rows → HasTaken after rows)
 
 -- ---- headers
 

@@ -11,7 +11,7 @@ ghost use Rattle.gimli_lines_machine.specs.Machine.{after_row, after_operations,
 ghost use Rattle.gimli_lines_machine.specs.declared.rules.LineRules.{LineRules};
 ghost use Rattle.gimli_lines_machine.specs.declared.registers.Registers.{Registers};
 ghost use Rattle.gimli_lines_rows.specs.ProgramInstructions.{rules_of};
-ghost use Rattle.gimli_lines_rows.specs.RowSinks.{GivesOnTheWay};
+ghost use Rattle.gimli_lines_rows.specs.RowSinks.{GivesOnTheWay, GivesRow};
 ghost use Rattle.gimli_lines_rows.specs.NumericSteps.{ExecutesAtOnce, StepsAtOnce, RunsToRow, effect_of, numeric_effect, rows_at};
 
 use crate::numbers::{read_signed, read_unsigned};
@@ -111,6 +111,7 @@ fn run_standard<R: Reader>(
 
 // The operands of an opcode that the standard doesn't name, where it has at most one: it does
 // nothing.
+#[inline(always)]
 fn skip_unknown<R: Reader>(
     input: &mut EndianSlice<'_, R::Endian>,
     header: &LineProgramHeader<R>,
@@ -282,16 +283,49 @@ pub(crate) fn run_into<R: Reader, S: RowSink>(
 {
     // In a place of its own a row that the sink takes needs no memory.
     let mut shown = *row;
-    while run_to_row(bytes, registers, &mut shown, header, rules) {
-        match sink.take(&shown) {
-            Ok(()) => {}
-            Err(refusal) => {
-                *row = shown;
-                return Err(refusal);
+    while let Some(gives_row) = run_next(bytes, registers, header, rules) {
+        if gives_row {
+            match give_row(rules.line_rules(), registers, &mut shown, sink) {
+                Ok(()) => {}
+                Err(refusal) => {
+                    *row = shown;
+                    return Err(refusal);
+                }
             }
         }
     }
     Ok(())
+}
+
+// Ends a row, and gives it to a sink where it's shown: then it is the last row. The sink takes it
+// before the registers are cleared, so that they aren't held twice.
+#[inline(always)]
+fn give_row<S: RowSink>(
+    rules: LineRules,
+    registers: &mut Registers,
+    row: &mut LineRow,
+    sink: &mut S,
+) -> Result<(), Error>
+    ensures given { GivesRow S.form S.HasTaken result registers.old sink.old sink.new }
+    ensures row { row.new ≡ (if not registers.old.is_hidden then registers.old else row.old) }
+    ensures registers { registers.new ≡ after_row rules registers.old }
+{
+    if registers.is_hidden {
+        registers.clear(rules);
+        return Ok(());
+    }
+    *row = LineRow::of(*registers);
+    // Each case clears them, so that nothing asks again whether the sink has taken the row.
+    match sink.take(row) {
+        Ok(()) => {
+            registers.clear(rules);
+            Ok(())
+        }
+        Err(error) => {
+            registers.clear(rules);
+            Err(error)
+        }
+    }
 }
 
 // Ends a row, and says whether it's shown: then it is the last row.

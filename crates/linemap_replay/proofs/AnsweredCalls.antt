@@ -14,9 +14,10 @@ use Rattle.addr2line_context.specs.Histories.{ContextCall, CallAnswer, ContextSt
 use Rattle.linemap_replay.specs.declared.answer.Answer.{Answer}
 use Rattle.linemap_replay.specs.declared.call.Call.{Call}
 use Rattle.linemap_replay.specs.OwnedAnswers.{CopiedAnswer, answer_of, copied_answer}
-use Rattle.linemap_replay.specs.CallEffects.{LeavesPart, LeavesSome}
-use Rattle.linemap_replay.specs.Replays.{AreRunOnce, context_call, call_on, state_of, state_after, replay_answers}
+use Rattle.linemap_replay.specs.CallEffects.{KeepsAfterCall, KeepsAfterCalls, LeavesPart, LeavesSome, MayReadFunctions, MayReadLines, SomeMayRead}
+use Rattle.linemap_replay.specs.Replays.{AreRunOnce, context_call, call_on, state_of, state_after, replay_answers, answers_after}
 use Rattle.linemap_replay.proofs.AnsweredPlaces.{items_at}
+use Rattle.linemap_replay.proofs.KeptReads.{keeps_then, keeps_wider}
 use Rattle.linemap_replay.proofs.PartAnswers.{state_after-append}
 
 -- what the calls that are left answer and leave
@@ -25,6 +26,9 @@ answers_left c ks s = map copied_answer (history_from c (naming_in c) ks s)
 
 abbrev state_left : FileContext → List ContextCall → ContextState → ContextState
 state_left c ks s = state_after c (naming_in c) ks s
+
+abbrev with_answers : FileContext → FirstAnswers → AnsweredContext
+with_answers c answers = record { plain = c; answers = answers }
 
 module _ (files : List (Option DwarfFile)) (start : AnsweredContext) (calls : List Call) where
   abbrev calls_from : ℕ → List ContextCall
@@ -120,9 +124,9 @@ module _ (files : List (Option DwarfFile)) (start : AnsweredContext) (calls : Li
         ap (λ (s : ContextState). s.answers)
         (ap (λ ks. state_left start.plain ks (state_of v tokens)) (sym none_left) ∙ before.state)
 
-  -- memory is refused during a call, or after it
-  module _ (v : AnsweredContext) (tokens : List ℕ) (found : List Answer) (i : ℕ) (k : Call) (new : FirstAnswers)
-      (lt : i < length calls) (at : k ≡ get_or calls i k) (before : AnsweredBefore v tokens found i) where
+  -- a part of the calls, and the next one
+  module _ (v : AnsweredContext) (tokens : List ℕ) (found : List Answer) (i : ℕ) (k : Call) (lt : i < length calls)
+      (at : k ≡ get_or calls i k) (before : AnsweredBefore v tokens found i) where
     abbrev done : List ContextCall
     done = map (context_call files) (take i calls)
 
@@ -132,9 +136,11 @@ module _ (files : List (Option DwarfFile)) (start : AnsweredContext) (calls : Li
         ∙ map-append (context_call files) (take i calls) (drop i calls)
         ∙ ap (λ ks. done ++ map (context_call files) ks) (items_at calls i k lt at)
 
-    pub leaves_some : LeavesPart v.plain (naming_in v.plain) (context_call files k) (state_of v tokens) new
+    -- memory is refused during it, or after it
+    pub leaves_some : (new : FirstAnswers)
+        → LeavesPart v.plain (naming_in v.plain) (context_call files k) (state_of v tokens) new
         → LeavesSome start (map (context_call files) calls) new
-    leaves_some part = record {
+    leaves_some new part = record {
       done = done;
       next = context_call files k;
       rest = calls_from (i + 1);
@@ -143,6 +149,32 @@ module _ (files : List (Option DwarfFile)) (start : AnsweredContext) (calls : Li
           subst (λ s. LeavesPart start.plain (naming_in start.plain) (context_call files k) s new) before.reached
           (subst (λ c. LeavesPart c (naming_in c) (context_call files k) (state_of v tokens) new) before.plain part);
     }
+
+    -- the context is that with the answers that were left before it
+    same_context : v ≡ with_answers start.plain (answers_after start done)
+    same_context =
+        ap (λ (c : FileContext). with_answers c v.answers) before.plain
+        ∙ ap (with_answers start.plain) (ap (λ (s : ContextState). s.answers) before.reached)
+
+    some_may_read : (may_read : AnsweredContext → ContextCall → ℕ → Type 0) (n : ℕ)
+        → may_read v (context_call files k) n → SomeMayRead may_read start (map (context_call files) calls) n
+    some_may_read may_read n h = record {
+      done = done;
+      next = context_call files k;
+      rest = calls_from (i + 1);
+      are_calls = are_calls;
+      reads = subst (λ (c : AnsweredContext). may_read c (context_call files k) n) same_context h;
+    }
+
+    -- what is kept after it
+    pub keeps_call : (us vs ws : List ResolvedUnit) → KeepsAfterCalls start (map (context_call files) calls) us vs
+        → KeepsAfterCall v (context_call files k) vs ws → KeepsAfterCalls start (map (context_call files) calls) us ws
+    keeps_call us vs ws kept after =
+        let asks_lines = SomeMayRead MayReadLines start (map (context_call files) calls) in
+        let asks_functions = SomeMayRead MayReadFunctions start (map (context_call files) calls) in
+        keeps_then asks_lines asks_functions us vs ws kept
+        (keeps_wider (MayReadLines v (context_call files k)) asks_lines (MayReadFunctions v (context_call files k))
+        asks_functions (some_may_read MayReadLines) (some_may_read MayReadFunctions) vs ws after)
 
 -- a program is run where there is one and its lines are kept, and then once
 run_once : (us : List ResolvedUnit) → All (λ (u : ResolvedUnit). (runs_of_unit u).count ≤ 1) us

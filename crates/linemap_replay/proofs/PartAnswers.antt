@@ -1,19 +1,18 @@
 -- What calls leave where memory is refused.
-use Rattle.std.proofs.Common.{◌≡◌, ℕ, ◌+◌, ◌<◌, ◌≤◌, inl, inr, List, [], ◌∷◌, ◌++◌, map, take, drop, length, get_or, Option, Some, None, Result, Ok, Err, OnErr, refl, sym, ap, ◌∙◌, subst, ◌⊎◌, slice_get, arith}
-use Rattle.std.proofs.lemmas.List.{take_all, take-map, take-append-drop, map_more, map-append}
+use Rattle.std.proofs.Common.{◌≡◌, ℕ, ◌+◌, ◌<◌, inl, inr, List, [], ◌∷◌, ◌++◌, map, take, length, get_or, Option, Some, Result, Ok, Err, OnErr, refl, sym, ap, ◌∙◌, ◌⊎◌, slice_get, arith}
+use Rattle.std.proofs.lemmas.List.{take_all, take-map, map_more}
 use Rattle.addr2line_context.specs.AnsweredContexts.{AnsweredContext}
-use Rattle.addr2line_context.specs.ContextNames.{naming_in}
 use Rattle.addr2line_context.specs.ContextParses.{ParsesOrNoMemory}
 use Rattle.addr2line_context.specs.Contexts.{ContextUnit, FileContext}
 use Rattle.addr2line_context.specs.DwarfFiles.{DwarfFile}
 use Rattle.addr2line_context.specs.Error.{Error}
 use Rattle.addr2line_context.specs.FirstAnswers.{FirstAnswer, FirstAnswers, Lookup, SplitLoad, output, pending}
-use Rattle.addr2line_context.specs.Histories.{ContextCall, ContextState, CallAnswer, find_location, find_frames, find_unit, find_location_range, preload_units, answer_token, parse_lines, parse_functions, parse_inlined_functions, call, functions_or_refusal, calls_or_refusal, parse_from, token_call}
+use Rattle.addr2line_context.specs.Histories.{ContextCall, ContextState, find_location, find_frames, find_unit, find_location_range, preload_units, answer_token, parse_lines, parse_functions, parse_inlined_functions, call, functions_or_refusal, calls_or_refusal, parse_from, token_call}
 use Rattle.addr2line_context.specs.LoadAnswers.{AnswersOrNoMemory}
 use Rattle.addr2line_context.specs.Lookups.{Namings, answer_load, if_output, resume, frames, unit}
 use Rattle.addr2line_context.specs.SettledLookups.{loads_in, after_answer}
 use Rattle.addr2line_context.specs.UnitLookups.{IsPending}
-use Rattle.linemap_replay.specs.CallEffects.{LeavesPart, LeavesSome, SomeUnitsParsed}
+use Rattle.linemap_replay.specs.CallEffects.{LeavesPart, SomeUnitsParsed}
 use Rattle.linemap_replay.specs.Replays.{WaitsForFirst, call_on, resume_with_all, state_of, state_after, token_of}
 use Rattle.linemap_replay.proofs.AnsweredPlaces.{resumed_waiting}
 

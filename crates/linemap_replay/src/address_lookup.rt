@@ -8,7 +8,7 @@ ghost use Rattle.addr2line_context.specs.Histories.{CallAnswer, answer_or_suspen
 ghost use Rattle.addr2line_context.specs.OwnedPlaces.{CopiesOrNoMemory};
 ghost use Rattle.addr2line_context.specs.ResolvedUnits.{ResolvedUnit};
 ghost use Rattle.addr2line_context.specs.SettledLookups.{loads_in};
-ghost use Rattle.linemap_replay.specs.CallEffects.{Covers, KeepsAndReads};
+ghost use Rattle.linemap_replay.specs.CallEffects.{KeepsAndReads};
 ghost use Rattle.linemap_replay.specs.OwnedAnswers.{answer_of, copied_answer};
 ghost use Rattle.linemap_replay.specs.Replays.{WaitsForFirst};
 
@@ -30,21 +30,24 @@ pub(crate) trait AddressLookup<R: Reader> {
 
     ghost lookup: { AnsweredContext → ℕ → Lookup Found };
 
+    // It asks the unit of a number.
+    ghost asks: { AnsweredContext → ℕ → ℕ → Type 0 };
+
     // The answer of a call that finds this.
     ghost answer: { Found → CallAnswer };
 
     // This decides a lookup, in these units.
     ghost Decides: { List ResolvedUnit → Lookup Found → Self.Decided → Type 0 };
 
-    // What decides it, unless it waits for a load. What is read on the way is kept. The only error
-    // is out of memory.
+    // What decides it, unless it waits for a load. What is read on the way is kept, and nothing is
+    // read of units that it doesn't ask. The only error is out of memory.
     fn settle(context: &mut Context<R>, probe: u64) -> Result<Option<Self::Decided>, Error>
         ensures settles { DecidesUnlessWaiting (Decides context.new.units)
             (lookup context.old.value probe) result }
         ensures first { WaitsForFirst (loads_in context.old.value probe)
             (lookup context.old.value probe) }
         ensures value { context.new.value ≡ context.old.value }
-        ensures kept { KeepsAndReads (Covers context.old.value probe)
+        ensures kept { KeepsAndReads (asks context.old.value probe) (asks context.old.value probe)
             context.old.units context.new.units };
 
     // A copy of what it finds, once it is decided.
@@ -64,6 +67,7 @@ pub(crate) struct FrameLookup;
 
 impl<R: Reader> AddressLookup<R> for FrameLookup {
     ghost use Rattle.std.specs.Prelude.{List, Result};
+    ghost use Rattle.addr2line_context.specs.ContextCosts.{AsksForFrames};
     ghost use Rattle.addr2line_context.specs.Error.{Error};
     ghost use Rattle.addr2line_context.specs.FrameLoads.{DecidesFrames};
     ghost use Rattle.addr2line_context.specs.Frames.{Frame};
@@ -75,6 +79,8 @@ impl<R: Reader> AddressLookup<R> for FrameLookup {
     ghost Found = { Result (List Frame) Error };
 
     ghost lookup = { frames_in };
+
+    ghost asks = { AsksForFrames };
 
     ghost answer = { frames_answer };
 
@@ -101,6 +107,7 @@ pub(crate) struct UnitLookup;
 
 impl<R: Reader> AddressLookup<R> for UnitLookup {
     ghost use Rattle.std.specs.Prelude.{Option};
+    ghost use Rattle.addr2line_context.specs.ContextCosts.{AsksForUnit};
     ghost use Rattle.addr2line_context.specs.FrameLoads.{DecidesUnit};
     ghost use Rattle.addr2line_context.specs.Histories.{unit_answer};
     ghost use Rattle.addr2line_context.specs.SettledLookups.{unit_in};
@@ -111,6 +118,8 @@ impl<R: Reader> AddressLookup<R> for UnitLookup {
     ghost Found = { Option UnitInFile };
 
     ghost lookup = { unit_in };
+
+    ghost asks = { AsksForUnit };
 
     ghost answer = { unit_answer };
 

@@ -1,6 +1,7 @@
 //! Copies of stretches.
 
 ghost use Rattle.std.specs.Prelude.{◌≡◌, map};
+ghost use Rattle.addr2line_context.specs.ContextCosts.{AsksForRange};
 ghost use Rattle.addr2line_context.specs.Contexts.{stretches};
 ghost use Rattle.addr2line_context.specs.Histories.{stretches_answer};
 ghost use Rattle.addr2line_context.specs.OwnedPlaces.{CopiesOrNoMemory, stretch_of};
@@ -32,7 +33,8 @@ pub(crate) fn copy_stretches<R: Reader>(
     ensures answer { CopiesOrNoMemory answer_of result
         (copied_answer (stretches_answer (stretches context.old.value.plain.context low high))) }
     ensures value { context.new.value ≡ context.old.value }
-    ensures kept { KeepsAndReads (λ _. ⊥) context.old.units context.new.units }
+    ensures kept { KeepsAndReads (AsksForRange context.old.value low high) (λ _. ⊥)
+        context.old.units context.new.units }
 {
     let mut stretches = context.find_location_range(low, high)?;
     let mut copies = Vec::new(alloc);

@@ -3,7 +3,7 @@
 ghost use Rattle.std.specs.Prelude.{◌≡◌, OnErr, OnOk, map, option_map};
 ghost use Rattle.addr2line_context.specs.ContextNames.{naming_in};
 ghost use Rattle.addr2line_context.specs.OwnedPlaces.{CopiesOrNoMemory};
-ghost use Rattle.linemap_replay.specs.CallEffects.{KeepsAndReads, LeavesAnswers, LeavesPart, MayReadFunctions, SomeMayReadFunctions};
+ghost use Rattle.linemap_replay.specs.CallEffects.{KeepsAfterCall, KeepsAfterCalls, LeavesAnswers, LeavesPart};
 ghost use Rattle.linemap_replay.specs.OwnedAnswers.{answer_of, copied_answer};
 ghost use Rattle.linemap_replay.specs.Replays.{AreRunOnce, context_call, call_on, state_of, token_of, replay_answers};
 
@@ -37,7 +37,8 @@ fn answer_call<R: Reader>(
         (naming_in context.old.value.plain)
         (context_call (map (option_map (λ f. f.value.file)) answers.now) call.now)
         (state_of context.old.value (map token_of loads.old.items)) context.new.value.answers) }
-    ensures kept { KeepsAndReads (MayReadFunctions context.old.value call.now)
+    ensures kept { KeepsAfterCall context.old.value
+        (context_call (map (option_map (λ f. f.value.file)) answers.now) call.now)
         context.old.units context.new.units }
 {
     match call {
@@ -64,7 +65,8 @@ fn answer_call<R: Reader>(
 /// context's own method answers it after those before. A lookup that waits for a load is resumed
 /// with the answers at the call's places in turn, and dropped where there are no more of them; the
 /// answers that were taken stay. The only error is out of memory: the context then has the answers
-/// taken so far, and can be used again. The line number program of a unit is run once at most, also
+/// taken so far, and can be used again. Lines and functions are read of no units but those that the
+/// calls ask for them, and kept: the line number program of a unit is run once at most, also
 /// over several lists of calls.
 pub fn replay<R: Reader>(
     alloc: Global,
@@ -79,7 +81,8 @@ pub fn replay<R: Reader>(
         (map (context_call (map (option_map (λ f. f.value.file)) answers.now)) calls.now)
         context.new.value.answers }
     ensures plain { context.new.value.plain ≡ context.old.value.plain }
-    ensures kept { KeepsAndReads (SomeMayReadFunctions context.old.value calls.now)
+    ensures kept { KeepsAfterCalls context.old.value
+        (map (context_call (map (option_map (λ f. f.value.file)) answers.now)) calls.now)
         context.old.units context.new.units }
     ensures once { AreRunOnce context.old.units context.new.units }
 {

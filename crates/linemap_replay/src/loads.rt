@@ -5,7 +5,7 @@ ghost use Rattle.addr2line_context.specs.Error.TheVariants.{Memory};
 ghost use Rattle.addr2line_context.specs.FrameLoads.{DecidesUnlessWaiting};
 ghost use Rattle.addr2line_context.specs.SettledLookups.{after_answer};
 ghost use Rattle.addr2line_context.specs.OwnedPlaces.{CopiesOrNoMemory};
-ghost use Rattle.linemap_replay.specs.CallEffects.{Covers, KeepsAndReads};
+ghost use Rattle.linemap_replay.specs.CallEffects.{KeepsAndReads, KeepsAfterLookup};
 ghost use Rattle.linemap_replay.specs.Replays.{file_at, resume_with_all};
 
 use crate::address_lookup::AddressLookup;
@@ -41,7 +41,7 @@ fn answer_next<R: Reader>(
         (file_at (map (option_map (λ f. f.value.file)) answers.now) place)).answers)
         ⊎ (context.new.value.answers ≡ context.old.value.answers) }
     ensures refusal { IfErr result (λ e. e ≡ Memory) }
-    ensures kept { KeepsAndReads (λ _. ⊥) context.old.units context.new.units }
+    ensures kept { KeepsAndReads (λ _. ⊥) (λ _. ⊥) context.old.units context.new.units }
 {
     let file = answer_at(answers, place)?;
     answer_first(context, probe, file)
@@ -64,7 +64,8 @@ pub(crate) fn resume_lookup<R: Reader, L: AddressLookup<R>>(
     ensures part { OnErr result ((n : ℕ) × (context.new.value.answers
         ≡ (resume_with_all L.lookup context.old.value probe (take n
         (map (file_at (map (option_map (λ f. f.value.file)) answers.now)) places.now))).1)) }
-    ensures kept { KeepsAndReads (Covers context.old.value probe)
+    ensures kept { KeepsAfterLookup L.lookup L.asks context.old.value probe
+        (map (file_at (map (option_map (λ f. f.value.file)) answers.now)) places.now)
         context.old.units context.new.units }
 {
     for place in places {

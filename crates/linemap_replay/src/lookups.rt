@@ -2,9 +2,10 @@
 
 ghost use Rattle.std.specs.Prelude.{◌≡◌, ℕ, [], OnErr, OnOk, map, option_map, take};
 ghost use Rattle.addr2line_context.specs.BorrowedLocations.{location_value};
+ghost use Rattle.addr2line_context.specs.ContextCosts.{AsksForPlace, AsksForRange};
 ghost use Rattle.addr2line_context.specs.Histories.{find_location, find_location_range, answer_or_suspension};
 ghost use Rattle.addr2line_context.specs.OwnedPlaces.{CopiesOrNoMemory};
-ghost use Rattle.linemap_replay.specs.CallEffects.{Covers, KeepsAndReads};
+ghost use Rattle.linemap_replay.specs.CallEffects.{KeepsAndReads, KeepsAfterLookup};
 ghost use Rattle.linemap_replay.specs.OwnedAnswers.{answer_of, copied_answer, location_copy};
 ghost use Rattle.linemap_replay.specs.Replays.{file_at, call_on, resume_with_all};
 
@@ -34,7 +35,8 @@ pub(crate) fn find_place<R: Reader>(
     ensures answer { CopiesOrNoMemory answer_of result
         (copied_answer (call_on context.old.value [] (find_location probe)).0) }
     ensures value { context.new.value ≡ context.old.value }
-    ensures kept { KeepsAndReads (λ _. ⊥) context.old.units context.new.units }
+    ensures kept { KeepsAndReads (AsksForPlace context.old.value probe) (λ _. ⊥)
+        context.old.units context.new.units }
 {
     match context.find_location(probe) {
         Ok(place) => answer_place(alloc, place),
@@ -52,7 +54,8 @@ pub(crate) fn find_stretches<R: Reader>(
     ensures answer { CopiesOrNoMemory answer_of result
         (copied_answer (call_on context.old.value [] (find_location_range low high)).0) }
     ensures value { context.new.value ≡ context.old.value }
-    ensures kept { KeepsAndReads (λ _. ⊥) context.old.units context.new.units }
+    ensures kept { KeepsAndReads (AsksForRange context.old.value low high) (λ _. ⊥)
+        context.old.units context.new.units }
 {
     copy_stretches(alloc, context, low, high)
 }
@@ -75,7 +78,8 @@ pub(crate) fn find_copied<R: Reader, L: AddressLookup<R>>(
     ensures part { OnErr result ((n : ℕ) × (context.new.value.answers
         ≡ (resume_with_all L.lookup context.old.value probe (take n
         (map (file_at (map (option_map (λ f. f.value.file)) answers.now)) places.now))).1)) }
-    ensures kept { KeepsAndReads (Covers context.old.value probe)
+    ensures kept { KeepsAfterLookup L.lookup L.asks context.old.value probe
+        (map (file_at (map (option_map (λ f. f.value.file)) answers.now)) places.now)
         context.old.units context.new.units }
 {
     match resume_lookup::<R, L>(context, probe, places, answers)? {

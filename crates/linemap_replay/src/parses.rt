@@ -3,6 +3,7 @@
 ghost use Rattle.std.specs.Prelude.{◌≡◌, [], ⊤, OnErr, OnOk};
 ghost use Rattle.addr2line_context.specs.ContextNames.{naming_in};
 ghost use Rattle.addr2line_context.specs.Histories.{calls_or_refusal, functions_or_refusal, parse_lines, parse_functions, parse_inlined_functions};
+ghost use Rattle.addr2line_context.specs.KeptUnits.{AsksForLines};
 ghost use Rattle.addr2line_context.specs.OwnedPlaces.{CopiesOrNoMemory};
 ghost use Rattle.linemap_replay.specs.CallEffects.{KeepsAndReads, SomeUnitsParsed};
 ghost use Rattle.linemap_replay.specs.OwnedAnswers.{answer_of, copied_answer};
@@ -17,7 +18,8 @@ pub(crate) fn read_lines<R: Reader>(context: &mut Context<R>) -> Result<Answer, 
     ensures answer { CopiesOrNoMemory answer_of result
         (copied_answer (call_on context.old.value [] parse_lines).0) }
     ensures value { context.new.value ≡ context.old.value }
-    ensures kept { KeepsAndReads (λ _. ⊥) context.old.units context.new.units }
+    ensures kept { KeepsAndReads (AsksForLines context.old.value.plain.context.units) (λ _. ⊥)
+        context.old.units context.new.units }
 {
     complete(context.parse_lines())
 }
@@ -32,7 +34,7 @@ pub(crate) fn read_functions<R: Reader>(context: &mut Context<R>) -> Result<Answ
     ensures part { OnErr result (SomeUnitsParsed context.old.value.plain
         (functions_or_refusal context.old.value.plain)
         context.old.value.answers context.new.value.answers) }
-    ensures kept { KeepsAndReads (λ _. ⊤) context.old.units context.new.units }
+    ensures kept { KeepsAndReads (λ _. ⊥) (λ _. ⊤) context.old.units context.new.units }
 {
     complete(context.parse_functions())
 }
@@ -47,7 +49,7 @@ pub(crate) fn read_calls<R: Reader>(context: &mut Context<R>) -> Result<Answer, 
     ensures part { OnErr result (SomeUnitsParsed context.old.value.plain
         (calls_or_refusal context.old.value.plain (naming_in context.old.value.plain))
         context.old.value.answers context.new.value.answers) }
-    ensures kept { KeepsAndReads (λ _. ⊤) context.old.units context.new.units }
+    ensures kept { KeepsAndReads (λ _. ⊥) (λ _. ⊤) context.old.units context.new.units }
 {
     complete(context.parse_inlined_functions())
 }

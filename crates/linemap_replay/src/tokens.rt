@@ -89,7 +89,7 @@ pub(crate) fn answer_by_token<R: Reader>(
     ensures part { OnErr result ((context.new.value.answers ≡ context.old.value.answers)
         ⊎ (context.new.value.answers ≡ (call_on context.old.value (map token_of loads.now)
         (answer_token number (option_map (λ f. f.value.file) file))).1.answers)) }
-    ensures kept { KeepsAndReads (λ _. ⊥) context.old.units context.new.units }
+    ensures kept { KeepsAndReads (λ _. ⊥) (λ _. ⊥) context.old.units context.new.units }
 {
     match token_at(loads, number) {
         Some(token) => complete(context.answer_load(token, file)),

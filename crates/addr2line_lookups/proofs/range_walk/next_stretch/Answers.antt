@@ -1,18 +1,18 @@
-use Rattle.std.proofs.Common.{◌≡◌, ◌∙◌, List, Option, Ok, Err, ap, map, refl, subst, sym}
+use Rattle.std.proofs.Common.{◌≡◌, ◌∙◌, ◌+◌, List, Option, Ok, Err, ap, map, refl, subst, sym, arith}
 use Rattle.std.proofs.lemmas.Result.{err_from_is_err_and}
 use Rattle.addr2line_unit.specs.Error.TheVariants.{Memory}
 use Rattle.addr2line_unit.specs.Contexts.{ContextUnit}
 use Rattle.addr2line_unit.specs.ContextUnits.{unit_places}
 use Rattle.addr2line_unit.specs.ResolvedUnits.{plain_unit}
-use Rattle.addr2line_lookups.specs.RangeWalks.{BeginsRange, NextOfRows, walk_left, StaysOnItsWay}
+use Rattle.addr2line_lookups.specs.RangeWalks.{BeginsRange, NextOfRows, walk_left, walk_looks, found_looks, StaysOnItsWay}
 use Rattle.addr2line_lookups.specs.declared.range_walk.RangeRows.{RangeRows}
 use Rattle.addr2line_lookups.specs.declared.range_walk.UnitStretch.{UnitStretch}
 use Rattle.addr2line_lookups.proofs.AskedStretches.{AsksAfter, walk_begins, rows_found, rows_passed, rows_reads, rows_kept, walk_ends, next_begins, next_refused, next_reads, next_kept, refused_stretch, stretch_not_refused, rows_not_refused}
 use Rattle.addr2line_lookups.proofs.KeptLines.{same_plain}
-use Rattle.addr2line_lookups.proofs.RangeSteps.{first_left, next_range, refused_range, no_range, stays_empty, ok_stretch}
+use Rattle.addr2line_lookups.proofs.RangeSteps.{first_left, next_range, refused_range, no_range, leaves_range, ok_stretch}
 use Rattle.addr2line_lookups.proofs.RangeUnits.{way_of_rows, way_of_range}
-use Rattle.addr2line_lookups.proofs.ReadLines.{lines_none, lines_both}
 use Rattle.addr2line_lookups.proofs.UnitProbes.{refused_so}
+use Rattle.addr2line_lookups.proofs.WalkLooks.{walks_none, walks_both, walks_on, refused_walks, range_walks, found_few}
 use Rattle.addr2line_lookups.proofs.range_walk.next_stretch.Goals as goal
 
 pub range-init : goal.range-init
@@ -20,7 +20,9 @@ range-init g c =
     let us = c.args.units.now.items in
     let left = walk_left (map unit_places (map plain_unit us)) c.args.ranges.now c.args.walk.now in
     record {
-      change = lines_none us;
+      change =
+          walks_none (walk_looks (map plain_unit us) c.args.ranges.now c.args.walk.now)
+          (walk_looks (map plain_unit us) c.args.ranges.now c.args.walk.now) us (omega arith);
       left = refl {a = left};
       asks = walk_begins us c.args.ranges.now c.args.walk.now;
       way = λ n come. come;
@@ -43,12 +45,12 @@ returns-in_default-next_overlapping-clause-stretch g c =
     let ranges = c.args.ranges.now in
     let w = c.next_of_rows.new.walk in
     let stays =
-    stays_empty units c.range.walk w c.in_ok-stretch.field-0 c.in_default.is
+    leaves_range units ranges c.range.walk w c.in_ok-stretch.field-0 c.in_default.is
     (subst (λ (xs : List ContextUnit). NextOfRows xs (Ok c.in_ok-stretch.field-0) c.range.walk w)
     (same_plain c.range.units.items c.args.units.now.items c.range.invariant.change.values)
     c.in_ok-stretch.ensures.stretch) in
     let same : walk_left us ranges w ≡ walk_left us ranges c.args.walk.now =
-    ap (walk_left us ranges) stays.0 ∙ c.range.invariant.left in
+    stays.0 ∙ c.range.invariant.left in
     (sym same ∙ no_range us ranges w stays.1 c.in_default-next_overlapping.ensures, same)
 
 pub returns-in_err-walk-clause-stretch : goal.returns-in_err-walk-clause-stretch
@@ -61,12 +63,12 @@ returns-in_err-walk-clause-stretch g c =
     let r = c.in-Some-next_overlapping.range in
     let e = c.in_err-walk.field-0.0 in
     let stays =
-    stays_empty units c.range.walk w c.in_ok-stretch.field-0 c.in_default.is
+    leaves_range units ranges c.range.walk w c.in_ok-stretch.field-0 c.in_default.is
     (subst (λ (xs : List ContextUnit). NextOfRows xs (Ok c.in_ok-stretch.field-0) c.range.walk w)
     (same_plain c.range.units.items c.args.units.now.items c.range.invariant.change.values)
     c.in_ok-stretch.ensures.stretch) in
     let same : walk_left us ranges w ≡ walk_left us ranges c.args.walk.now =
-    ap (walk_left us ranges) stays.0 ∙ c.range.invariant.left in
+    stays.0 ∙ c.range.invariant.left in
     let refuses : BeginsRange us w.low w.high r (Err e) =
     subst (λ (xs : List ContextUnit). BeginsRange (map unit_places xs) w.low w.high r (Err e))
     (same_plain c.next_of_rows.new.units.items c.args.units.now.items
@@ -91,7 +93,7 @@ range-preserved g c =
     let now = c.next_of_rows.new.units.items in
     let rows = c.in_ok-walk.field-0 in
     let stays =
-    stays_empty units c.range.walk w c.in_ok-stretch.field-0 c.in_default.is
+    leaves_range units ranges c.range.walk w c.in_ok-stretch.field-0 c.in_default.is
     (subst (λ (xs : List ContextUnit). NextOfRows xs (Ok c.in_ok-stretch.field-0) c.range.walk w)
     (same_plain c.range.units.items old c.range.invariant.change.values) c.in_ok-stretch.ensures.stretch) in
     let begins : BeginsRange us w.low w.high r (Ok rows) =
@@ -106,12 +108,22 @@ range-preserved g c =
     c.in_ok-stretch.ensures.reads c.in_ok-stretch.ensures.change.cost.more
     (c.in_ok-stretch.ensures.asked (stretch_not_refused _)) c.range.invariant.change.values w c.in_ok-stretch.field-0
     c.in_ok-stretch.ensures.stretch c.in_default.is in
+    let no_row : found_looks c.in_ok-stretch.field-0 ≡ 0 =
+    ap (λ (o : Option UnitStretch). found_looks o) c.in_default.is in
     record {
       change =
-          lines_both (lines_both c.range.invariant.change c.in_ok-stretch.ensures.change) c.in_ok-walk.ensures.change;
+          walks_both (walk_looks units ranges c.args.walk.now) (walk_looks units ranges w)
+          (walk_looks units ranges (record { low = w.low; high = w.high; rows = rows; next = next })) old now
+          c.first_rows.new.units.items
+          (walks_on ranges old c.range.units.items now c.range.invariant.change.values c.range.walk w c.args.walk.now
+          (Ok c.in_ok-stretch.field-0) (walk_looks units ranges c.args.walk.now) (omega (arith, no_row))
+          c.range.invariant.change c.in_ok-stretch.ensures.stretch c.in_ok-stretch.ensures.change)
+          (range_walks ranges old now c.first_rows.new.units.items
+          (c.in_ok-stretch.ensures.change.values ∙ c.range.invariant.change.values) w r next rows
+          c.in-Some-next_overlapping.ensures c.in_ok-walk.ensures.change);
       left =
           next_range us ranges w stays.1 r next rows c.in-Some-next_overlapping.ensures begins
-          ∙ ap (walk_left us ranges) stays.0 ∙ c.range.invariant.left;
+          ∙ stays.0 ∙ c.range.invariant.left;
       asks =
           next_begins old ranges c.args.walk.now w now passed r next c.in-Some-next_overlapping.ensures
           c.first_rows.new.units.items c.in_ok-walk.ensures.reads c.in_ok-walk.ensures.change.cost.more
@@ -124,19 +136,49 @@ range-preserved g c =
 
 pub returns-in_err-stretch-clause-change : goal.returns-in_err-stretch-clause-change
 returns-in_err-stretch-clause-change g c =
-    lines_both c.range.invariant.change c.in_err-stretch.ensures.change
+    let us = c.args.units.now.items in
+    let ranges = c.args.ranges.now in
+    walks_on ranges us c.range.units.items c.next_of_rows.new.units.items c.range.invariant.change.values c.range.walk
+    c.next_of_rows.new.walk c.args.walk.now (Err c.in_err-stretch.field-0.0)
+    (walk_looks (map plain_unit us) ranges c.args.walk.now + 3) (omega arith) c.range.invariant.change
+    c.in_err-stretch.ensures.stretch c.in_err-stretch.ensures.change
 
 pub returns-in-Some-clause-change : goal.returns-in-Some-clause-change
 returns-in-Some-clause-change g c =
-    lines_both c.range.invariant.change c.in_ok-stretch.ensures.change
+    let us = c.args.units.now.items in
+    let ranges = c.args.ranges.now in
+    let few = found_few c.in_ok-stretch.field-0 in
+    walks_on ranges us c.range.units.items c.next_of_rows.new.units.items c.range.invariant.change.values c.range.walk
+    c.next_of_rows.new.walk c.args.walk.now (Ok c.in_ok-stretch.field-0)
+    (walk_looks (map plain_unit us) ranges c.args.walk.now + 3) (omega (arith, few)) c.range.invariant.change
+    c.in_ok-stretch.ensures.stretch c.in_ok-stretch.ensures.change
 
 pub returns-in_default-next_overlapping-clause-change : goal.returns-in_default-next_overlapping-clause-change
 returns-in_default-next_overlapping-clause-change g c =
-    lines_both c.range.invariant.change c.in_ok-stretch.ensures.change
+    let us = c.args.units.now.items in
+    let ranges = c.args.ranges.now in
+    let few = found_few c.in_ok-stretch.field-0 in
+    walks_on ranges us c.range.units.items c.next_of_rows.new.units.items c.range.invariant.change.values c.range.walk
+    c.next_of_rows.new.walk c.args.walk.now (Ok c.in_ok-stretch.field-0)
+    (walk_looks (map plain_unit us) ranges c.args.walk.now + 3) (omega (arith, few)) c.range.invariant.change
+    c.in_ok-stretch.ensures.stretch c.in_ok-stretch.ensures.change
 
 pub returns-in_err-walk-clause-change : goal.returns-in_err-walk-clause-change
 returns-in_err-walk-clause-change g c =
-    lines_both (lines_both c.range.invariant.change c.in_ok-stretch.ensures.change) c.in_err-walk.ensures.change
+    let us = c.args.units.now.items in
+    let now = c.next_of_rows.new.units.items in
+    let ranges = c.args.ranges.now in
+    let w = c.next_of_rows.new.walk in
+    let begun = walk_looks (map plain_unit us) ranges c.args.walk.now in
+    let left = walk_looks (map plain_unit us) ranges w in
+    let few = found_few c.in_ok-stretch.field-0 in
+    walks_both (begun + 3) left left us now c.first_rows.new.units.items
+    (walks_on ranges us c.range.units.items now c.range.invariant.change.values c.range.walk w c.args.walk.now
+    (Ok c.in_ok-stretch.field-0) (begun + 3) (omega (arith, few)) c.range.invariant.change
+    c.in_ok-stretch.ensures.stretch c.in_ok-stretch.ensures.change)
+    (refused_walks ranges us now c.first_rows.new.units.items
+    (c.in_ok-stretch.ensures.change.values ∙ c.range.invariant.change.values) w c.in-Some-next_overlapping.range
+    c.in_err-walk.field-0.0 c.in_err-walk.ensures.change left)
 
 -- ---- lines that are asked for
 

@@ -17,7 +17,7 @@ returns-in-Some-clause-ranges g c =
     let lent = c.ranges-in-Some.ensures in
     let was_shared = c.in_ok-share.ensures in
     let same : p.ranges ≡ c.in_ok-share.field-0.value.items = cc in
-    ap ok_ranges (sym (shared_ranges u last.counter p is header key) ∙ same)
+    ap ok_ranges (sym (shared_ranges u last.counters.name p is header key) ∙ same)
 
 pub returns-in-Some-clause-lines : goal.returns-in-Some-clause-lines
 returns-in-Some-clause-lines g c =
@@ -33,5 +33,5 @@ returns-in-Some-clause-lines g c =
     let header = header_of_sharing u last p c.in-Some.ensures.0 c.requires.last in
     let key = c.in-Some.ensures.1 ∙ ap (λ (w : UnitInFile). program_key w.facts) c.unit_ref.ensures in
     subst (λ (n : ℕ). RunsForRanges n ranges lines c.args.unit.now c.lines_for.new.unit) (sym c.requires.counter)
-    (runs_shared c.args.unit.now c.lines_for.new.unit last.counter p is header key ranges lines same
+    (runs_shared c.args.unit.now c.lines_for.new.unit last.counters.name p is header key ranges lines same
     c.in_ok-lines_for.ensures.lines)

@@ -4,7 +4,7 @@ use Rattle.addr2line_ranges.specs.UnitFacts.{UnitInFile}
 use Rattle.addr2line_ranges.specs.UnitLines.{lines_of_unit}
 use Rattle.addr2line_ranges.specs.UnitRanges.{ranges_of_lines}
 use Rattle.addr2line_root.specs.CountedRuns.{CountedUnit}
-use Rattle.addr2line_root.specs.LastPrograms.{ProgramRun, program_key, unit_texts}
+use Rattle.addr2line_root.specs.LastPrograms.{ProgramRun, LastProgram, program_key, unit_texts}
 use Rattle.addr2line_root.proofs.SharedLines.{program_kept}
 use Rattle.addr2line_root.proofs.ranges.ranges_by_run.Goals as goal
 
@@ -28,3 +28,6 @@ returns-clause-last g c =
     let made : c.in_ok-new.field-0 ≡ run_of w = cc in
     program_kept u counter c.args.last.now c.keep.new.self c.in_ok-new.field-0 ranges lines c.keep.ensures
     c.requires.counter (made ∙ ap run_of same) ranges_are lines_are
+
+pub returns-clause-counters : goal.returns-clause-counters
+returns-clause-counters g c = ap (λ (l : LastProgram). l.counters) c.keep.ensures

@@ -1,5 +1,5 @@
-use Rattle.std.proofs.Common.{◌≡◌, List, [], ◌∷◌, ◌++◌, map, Option, Some, option_map, Result, Ok, rules, ap, sym, subst, ◌∙◌, add-zero}
-use Rattle.std.specs.Prelude.{IfSome}
+use Rattle.std.proofs.Common.{◌≡◌, List, [], ◌∷◌, ◌++◌, map, Option, Some, None, refl, option_map, Result, Ok, ap, sym, subst, ◌∙◌, add-zero}
+use Rattle.std.specs.Prelude.{is_some, true, false}
 use Rattle.std.specs.Option.{option_to_list}
 use Rattle.std.proofs.lemmas.List.{append-nil}
 use Rattle.gimli_core_readers.specs.Error.{Error}
@@ -12,8 +12,6 @@ use Rattle.gimli_core_abbrev.specs.Declarations.{Attribute}
 use Rattle.gimli_core_abbrev.specs.TableParsing.{attribute, attributes}
 use Rattle.gimli_core_abbrev.specs.declared.abbreviation.AttributeSpecification.{AttributeSpecification}
 use Rattle.gimli_core_abbrev.specs.AbbreviationViews.{attribute_view, added_view, Extends}
-use Rattle.gimli_core_abbrev.specs.DeclarationFacts.{FitsInBytes, KnowsRead}
-use Rattle.gimli_core_abbrev.specs.declared.abbreviation.Pushed.{Pushed}
 use Rattle.gimli_core_abbrev.proofs.DeclarationSizes.{attributes-shrink}
 use Rattle.gimli_core_abbrev.proofs.AddedAttributes.{added_none, extends_none, extends_further, view_further}
 use Rattle.gimli_core_abbrev.proofs.abbreviation.parse_attributes.Goals as goal
@@ -21,16 +19,18 @@ use Rattle.gimli_core_abbrev.proofs.abbreviation.parse_attributes.Goals as goal
 after_none : (v : View) → after 0 v ≡ v
 after_none v = ap (at_place v.is_big v.bytes) (add-zero v.first)
 
-abbrev ok_read : Option Attribute → View → Result (Option Attribute × View) Error
-ok_read o v = Ok (o, v)
+-- the attribute that was appended, where there is one
+pushed_item : (o : Option AttributeSpecification) (v place : View) → is_some o ≡ true
+    → attribute v ≡ Ok (option_map attribute_view o, place)
+    → (a : AttributeSpecification) × (o ≡ Some a) × (attribute v ≡ Ok (Some (attribute_view a), place))
+pushed_item None v place h reads = absurd cc
+pushed_item (Some a) v place h reads = (a, refl, reads)
 
--- the attribute that was pushed, where there is one
-pushed_item : {o : Option Pushed} {pushed : Pushed} (v place : View) → o ≡ Some pushed
-    → attribute v ≡ ok_read (option_map (λ (p : Pushed). attribute_view p.attribute) o) place
-    → attribute v ≡ ok_read (Some (attribute_view pushed.attribute)) place
-pushed_item v place is reads =
-    reads
-    ∙ ap (λ (o : Option Pushed). ok_read (option_map (λ (p : Pushed). attribute_view p.attribute) o) place) is
+pushed_none : (o : Option AttributeSpecification) (v place : View) → is_some o ≡ false
+    → attribute v ≡ Ok (option_map attribute_view o, place)
+    → (o ≡ None) × (attribute v ≡ Ok (None, place))
+pushed_none None v place h reads = (refl, reads)
+pushed_none (Some a) v place h reads = absurd cc
 
 pub pushing-init : goal.pushing-init
 pushing-init g c =
@@ -42,72 +42,62 @@ pushing-init g c =
           ap (λ (xs : List Attribute). prepend xs (listing_in bytes_left attribute c.range_from-place.result)) none
           ∙ ap (λ (v : View). listing_in bytes_left attribute v)
           (c.range_from-place.ensures ∙ after_none c.args.input.now);
-      fits = c.none-facts.ensures.fits;
-      knows = subst (KnowsRead c.none-facts.result) (sym none) c.none-facts.ensures.knows;
     }
 
 pub pushing-preserved : goal.pushing-preserved
 pushing-preserved g c =
     let was = c.pushing.invariant in
-    let a = c.in-Some.pushed.attribute in
-    let items : c.push_next.new.found.items ≡ c.pushing.found.items ++ a ∷ [] = c.in_ok-pushed.ensures.items
-    ∙ ap (λ (o : Option Pushed). c.pushing.found.items ++ option_to_list (option_map (λ (p : Pushed). p.attribute) o))
-    c.in-Some.is in
-    let item = pushed_item c.pushing.place c.push_next.new.place c.in-Some.is c.in_ok-pushed.ensures.value in
-    let knows = subst (λ (o : Option Pushed). IfSome o (λ p. FitsInBytes p.facts × ((before : List Attribute)
-    → KnowsRead c.pushing.facts before → KnowsRead p.facts (before ++ attribute_view p.attribute ∷ []))))
-    c.in-Some.is c.in_ok-pushed.ensures.knows in
-    let more = view_further c.args.found.now.items c.pushing.found.items c.push_next.new.found.items a was.extends
+    let f = pushed_item c.in_ok-push_next.field-0 c.pushing.place c.push_next.new.place
+    (sym c.is_some.ensures ∙ c.if-is_some.true) c.in_ok-push_next.ensures.value in
+    let items : c.push_next.new.found.items ≡ c.pushing.found.items ++ f.0 ∷ [] = c.in_ok-push_next.ensures.items
+    ∙ ap (λ (o : Option AttributeSpecification). c.pushing.found.items ++ option_to_list o) f.1 in
+    let more = view_further c.args.found.now.items c.pushing.found.items c.push_next.new.found.items f.0 was.extends
     items in
     record {
-      extends = extends_further c.args.found.now.items c.pushing.found.items (a ∷ []) c.push_next.new.found.items
+      extends = extends_further c.args.found.now.items c.pushing.found.items (f.0 ∷ []) c.push_next.new.found.items
           was.extends items;
       listing =
           ap (λ (xs : List Attribute). prepend xs (listing_in bytes_left attribute c.push_next.new.place)) more
           ∙ sym (listing_item attributes-shrink (added_view c.args.found.now.items c.pushing.found.items)
-          (attribute_view a) c.pushing.place c.push_next.new.place item) ∙ was.listing;
-      fits = knows.0;
-      knows = subst (KnowsRead c.in-Some.pushed.facts) (sym more)
-          (knows.1 (added_view c.args.found.now.items c.pushing.found.items) was.knows);
+          (attribute_view f.0) c.pushing.place c.push_next.new.place f.2) ∙ was.listing;
     }
 
 pub pushing-smaller : goal.pushing-smaller
 pushing-smaller g c =
-    item_smaller attributes-shrink c.pushing.place (attribute_view c.in-Some.pushed.attribute) c.push_next.new.place
-    (pushed_item c.pushing.place c.push_next.new.place c.in-Some.is c.in_ok-pushed.ensures.value)
+    let f = pushed_item c.in_ok-push_next.field-0 c.pushing.place c.push_next.new.place
+    (sym c.is_some.ensures ∙ c.if-is_some.true) c.in_ok-push_next.ensures.value in
+    item_smaller attributes-shrink c.pushing.place (attribute_view f.0) c.push_next.new.place f.2
 
 abbrev ok_attributes : View → List Attribute → Result (List Attribute × View) Error
 ok_attributes v xs = Ok (xs, v)
+
+-- nothing was appended at the end
+unchanged : (old now : List AttributeSpecification) (o : Option AttributeSpecification)
+    → now ≡ old ++ option_to_list o → o ≡ None → now ≡ old
+unchanged old now o e none =
+    e ∙ ap (λ (o : Option AttributeSpecification). old ++ option_to_list o) none ∙ append-nil old
 
 pub returns-clause-value : goal.returns-clause-value
 unfolding attributes
 returns-clause-value g c =
     let was = c.pushing.invariant in
-    let items : c.push_next.new.found.items ≡ c.pushing.found.items ++ [] = search rules in
-    let same = items ∙ append-nil c.pushing.found.items in
-    all_of_end attributes-shrink (added_view c.args.found.now.items c.pushing.found.items) _ _ _ was.listing
-    (search rules)
+    let f = pushed_none c.in_ok-push_next.field-0 c.pushing.place c.push_next.new.place
+    (sym c.is_some.ensures ∙ c.if-is_some.false) c.in_ok-push_next.ensures.value in
+    let same = unchanged c.pushing.found.items _ _ c.in_ok-push_next.ensures.items f.0 in
+    all_of_end attributes-shrink (added_view c.args.found.now.items c.pushing.found.items) _ _ _ was.listing f.1
     ∙ ap (λ (xs : List AttributeSpecification).
     ok_attributes c.push_next.new.place (added_view c.args.found.now.items xs)) (sym same)
 
 pub returns-clause-extends : goal.returns-clause-extends
 returns-clause-extends g c =
     let was = c.pushing.invariant in
-    let items : c.push_next.new.found.items ≡ c.pushing.found.items ++ [] = search rules in
-    subst (Extends c.args.found.now.items) (sym (items ∙ append-nil c.pushing.found.items)) was.extends
+    let f = pushed_none c.in_ok-push_next.field-0 c.pushing.place c.push_next.new.place
+    (sym c.is_some.ensures ∙ c.if-is_some.false) c.in_ok-push_next.ensures.value in
+    let same = unchanged c.pushing.found.items _ _ c.in_ok-push_next.ensures.items f.0 in
+    subst (Extends c.args.found.now.items) (sym same) was.extends
 
-pub returns-clause-knows : goal.returns-clause-knows
-returns-clause-knows g c =
-    let was = c.pushing.invariant in
-    let items : c.push_next.new.found.items ≡ c.pushing.found.items ++ [] = search rules in
-    let same = items ∙ append-nil c.pushing.found.items in (
-      was.fits,
-      subst (λ (xs : List AttributeSpecification). KnowsRead c.pushing.facts (added_view c.args.found.now.items xs))
-          (sym same) was.knows,
-    )
-
-pub returns-in_err-pushed-clause-value : goal.returns-in_err-pushed-clause-value
+pub returns-in_err-push_next-clause-value : goal.returns-in_err-push_next-clause-value
 unfolding attributes
-returns-in_err-pushed-clause-value g c =
+returns-in_err-push_next-clause-value g c =
     returns_refused _ c.from_residual.result _ _ c.from_residual.ensures.1
-    (λ ne. all_of_fault attributes-shrink _ _ _ _ c.pushing.invariant.listing (c.in_err-pushed.ensures.value ne))
+    (λ ne. all_of_fault attributes-shrink _ _ _ _ c.pushing.invariant.listing (c.in_err-push_next.ensures.value ne))

@@ -3,7 +3,6 @@ use Rattle.gimli_core_readers.specs.View.{bytes_left}
 use Rattle.gimli_core_readers.specs.Repetition.{prepend, listing_in}
 use Rattle.gimli_core_abbrev.specs.TableParsing.{attribute}
 use Rattle.gimli_core_abbrev.specs.AbbreviationViews.{added_view, Extends}
-use Rattle.gimli_core_abbrev.specs.DeclarationFacts.{FitsInBytes, KnowsRead}
 use Rattle.gimli_core_abbrev.proofs.abbreviation.parse_attributes.Given as goal
 
 -- the attributes so far, and then those that are left
@@ -12,8 +11,6 @@ invariant-pushing g l = record {
   extends : Extends l.fn.found.items l.found.items;
   listing : prepend (added_view l.fn.found.items l.found.items) (listing_in bytes_left attribute l.place)
       ≡ listing_in bytes_left attribute l.fn.input;
-  fits : FitsInBytes l.facts;
-  knows : KnowsRead l.facts (added_view l.fn.found.items l.found.items);
 }
 
 abbrev pub decreases-pushing : goal.decreases-pushing

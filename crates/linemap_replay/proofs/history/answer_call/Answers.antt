@@ -64,22 +64,24 @@ pub returns-in-Location-clause-kept : goal.returns-in-Location-clause-kept
 returns-in-Location-clause-kept g c = rw c.in-Location.is c.find_place.ensures.kept
 
 pub returns-in-Frames-clause-kept : goal.returns-in-Frames-clause-kept
-returns-in-Frames-clause-kept g c = rw c.in-Frames.is c.find_copied.ensures.kept
+returns-in-Frames-clause-kept g c =
+    rw c.in-Frames.is (rw c.as_slice.ensures.value at c.find_copied.ensures.kept)
 
 pub returns-in-Range-clause-kept : goal.returns-in-Range-clause-kept
 returns-in-Range-clause-kept g c = rw c.in-Range.is c.find_stretches.ensures.kept
 
 pub returns-in-Unit-clause-kept : goal.returns-in-Unit-clause-kept
-returns-in-Unit-clause-kept g c = rw c.in-Unit.is c.find_copied-in-Unit.ensures.kept
+returns-in-Unit-clause-kept g c =
+    rw c.in-Unit.is (rw c.as_slice-in-Unit.ensures.value at c.find_copied-in-Unit.ensures.kept)
 
 pub returns-in-Preload-clause-kept : goal.returns-in-Preload-clause-kept
 returns-in-Preload-clause-kept g c =
     rw c.in-Preload.is
-    (subst (λ (x : ResolvedContext). KeepsAndReads (λ n. ⊥) c.args.context.now.units x.units)
-    (sym c.preload.ensures.value) (keeps_same (λ n. ⊥) c.args.context.now.units))
+    (subst (λ (x : ResolvedContext). KeepsAndReads (λ n. ⊥) (λ n. ⊥) c.args.context.now.units x.units)
+    (sym c.preload.ensures.value) (keeps_same (λ n. ⊥) (λ n. ⊥) c.args.context.now.units))
 
 pub returns-in_err-file-in-Answer-clause-kept : goal.returns-in_err-file-in-Answer-clause-kept
-returns-in_err-file-in-Answer-clause-kept g c = keeps_same _ c.args.context.now.units
+returns-in_err-file-in-Answer-clause-kept g c = keeps_same _ _ c.args.context.now.units
 
 pub returns-in_ok-file-in-Answer-clause-kept : goal.returns-in_ok-file-in-Answer-clause-kept
 returns-in_ok-file-in-Answer-clause-kept g c = rw c.in-Answer.is c.answer_by_token.ensures.kept

@@ -1,7 +1,7 @@
 use Rattle.std.proofs.Common.{◌≡◌, ◌⊎◌, inr, refl, subst, Option, OnOk}
 use Rattle.addr2line_context.specs.DwarfFiles.{DwarfFile}
 use Rattle.addr2line_context.specs.SettledLookups.{after_answer}
-use Rattle.linemap_replay.proofs.KeptReads.{by_looks, keeps_same, reads_none}
+use Rattle.linemap_replay.proofs.KeptReads.{keeps_same, reads_nothing}
 use Rattle.linemap_replay.proofs.loads.answer_next.Goals as goal
 
 pub returns-clause-answered : goal.returns-clause-answered
@@ -21,9 +21,9 @@ pub returns-in_err-file-clause-left : goal.returns-in_err-file-clause-left
 returns-in_err-file-clause-left g c = inr refl
 
 pub returns-in_err-file-clause-kept : goal.returns-in_err-file-clause-kept
-returns-in_err-file-clause-kept g c = keeps_same (λ n. ⊥) c.args.context.now.units
+returns-in_err-file-clause-kept g c = keeps_same (λ n. ⊥) (λ n. ⊥) c.args.context.now.units
 
 pub returns-clause-kept : goal.returns-clause-kept
 returns-clause-kept g c =
-    by_looks (λ n. ⊥) 0 c.args.context.now.units c.answer_first.new.context.units c.answer_first.ensures.cost
-    (reads_none (λ n. ⊥) c.args.context.now.units c.answer_first.new.context.units c.answer_first.ensures.functions)
+    reads_nothing 0 c.args.context.now.units c.answer_first.new.context.units c.answer_first.ensures.cost
+    c.answer_first.ensures.lines c.answer_first.ensures.functions

@@ -3,21 +3,20 @@ use Rattle.std.proofs.lemmas.List.{drop_all, map_more}
 use Rattle.addr2line_context.specs.AnsweredContexts.{AnsweredContext}
 use Rattle.addr2line_context.specs.FrameLoads.{DecidesUnlessWaiting, IsDone}
 use Rattle.linemap_replay.specs.Replays.{file_at, resume_with_all}
-use Rattle.linemap_replay.specs.CallEffects.{Covers}
-use Rattle.linemap_replay.proofs.KeptReads.{covers_same, keeps_of_none, keeps_same, keeps_then}
+use Rattle.linemap_replay.proofs.KeptReads.{keeps_answer, keeps_same, keeps_search}
 use Rattle.linemap_replay.proofs.PartAnswers.{answered_more, if_err, part_reached, part_answered}
 use Rattle.linemap_replay.proofs.AnsweredPlaces.{number_at, resumed_done, resumed_waiting, found_in_same, if_ok}
 use Rattle.linemap_replay.proofs.loads.resume_lookup.Goals as goal
 
 pub loop-place-init : goal.loop-place-init
-loop-place-init g c =
-    (refl, keeps_same (Covers c.args.context.now.value c.args.probe) c.args.context.now.units, refl, refl)
+loop-place-init g c = (refl, keeps_same _ _ c.args.context.now.units, refl, refl)
 
 -- ---- a load needs an answer
 
 pub loop-place-preserved : goal.loop-place-preserved
 loop-place-preserved g c =
     let lookup = g.L.AddressLookup.lookup in
+    let asks = g.L.AddressLookup.asks in
     let a = c.args.probe in
     let v = c.loop-place.context.value in
     let start = c.args.context.now.value in
@@ -27,10 +26,10 @@ loop-place-preserved g c =
     subst (λ o. DecidesUnlessWaiting (g.L.AddressLookup.Decides c.settle.new.context.units) (lookup v a) (Ok o))
     c.in-None.is c.in_ok-decided.ensures.settles in (
       c.answer_next.ensures.plain ∙ ap (λ (x : AnsweredContext). x.plain) is ∙ c.loop-place.invariant.0,
-      keeps_then (Covers start a) _ _ _
-          (keeps_then (Covers start a) _ _ _ c.loop-place.invariant.1
-          (covers_same v start a c.loop-place.invariant.0 _ _ c.settle.ensures.kept))
-          (keeps_of_none (Covers start a) _ _ c.answer_next.ensures.kept),
+      keeps_answer lookup asks start a (file_at files) c.args.places.now _ _ _
+          (keeps_search lookup asks start a (file_at files) c.args.places.now c.loop-place.place-index v
+          c.loop-place.invariant.0 c.loop-place.invariant.3 _ _ _ c.loop-place.invariant.1 c.settle.ensures.kept)
+          c.answer_next.ensures.kept,
       resumed_waiting lookup a v c.settle.new.context.value c.answer_next.new.context.value c.settle.ensures.first waits
           is c.answer_next.ensures.plain _ c.in_ok-answer_next-in-None.ensures.answered
           (map (file_at files) (drop (c.loop-place.place-index + 1) c.args.places.now))
@@ -47,12 +46,15 @@ loop-place-preserved g c =
 
 pub returns-in_err-answer_next-in-None-clause-kept : goal.returns-in_err-answer_next-in-None-clause-kept
 returns-in_err-answer_next-in-None-clause-kept g c =
+    let lookup = g.L.AddressLookup.lookup in
+    let asks = g.L.AddressLookup.asks in
     let start = c.args.context.now.value in
     let a = c.args.probe in
-    keeps_then (Covers start a) _ _ _
-    (keeps_then (Covers start a) _ _ _ c.loop-place.invariant.1
-    (covers_same c.loop-place.context.value start a c.loop-place.invariant.0 _ _ c.settle.ensures.kept))
-    (keeps_of_none (Covers start a) _ _ c.answer_next.ensures.kept)
+    let file = file_at (map (option_map (λ f. f.value.file)) c.args.answers.now) in
+    keeps_answer lookup asks start a file c.args.places.now _ _ _
+    (keeps_search lookup asks start a file c.args.places.now c.loop-place.place-index c.loop-place.context.value
+    c.loop-place.invariant.0 c.loop-place.invariant.3 _ _ _ c.loop-place.invariant.1 c.settle.ensures.kept)
+    c.answer_next.ensures.kept
 
 pub returns-in_err-answer_next-in-None-clause-part : goal.returns-in_err-answer_next-in-None-clause-part
 returns-in_err-answer_next-in-None-clause-part g c =
@@ -96,9 +98,10 @@ returns-in-Some-clause-resumed g c =
 
 pub returns-in-Some-clause-kept : goal.returns-in-Some-clause-kept
 returns-in-Some-clause-kept g c =
-    keeps_then (Covers c.args.context.now.value c.args.probe) _ _ _ c.loop-place.invariant.1
-    (covers_same c.loop-place.context.value c.args.context.now.value c.args.probe c.loop-place.invariant.0 _ _
-    c.settle.ensures.kept)
+    let file = file_at (map (option_map (λ f. f.value.file)) c.args.answers.now) in
+    keeps_search g.L.AddressLookup.lookup g.L.AddressLookup.asks c.args.context.now.value c.args.probe file
+    c.args.places.now c.loop-place.place-index c.loop-place.context.value c.loop-place.invariant.0
+    c.loop-place.invariant.3 _ _ _ c.loop-place.invariant.1 c.settle.ensures.kept
 
 -- ---- all places are taken
 
@@ -123,9 +126,10 @@ returns-clause-resumed g c =
 
 pub returns-clause-kept : goal.returns-clause-kept
 returns-clause-kept g c =
-    keeps_then (Covers c.args.context.now.value c.args.probe) _ _ _ c.loop-place.invariant.1
-    (covers_same c.loop-place.context.value c.args.context.now.value c.args.probe c.loop-place.invariant.0 _ _
-    c.settle-2.ensures.kept)
+    let file = file_at (map (option_map (λ f. f.value.file)) c.args.answers.now) in
+    keeps_search g.L.AddressLookup.lookup g.L.AddressLookup.asks c.args.context.now.value c.args.probe file
+    c.args.places.now c.loop-place.place-index c.loop-place.context.value c.loop-place.invariant.0
+    c.loop-place.invariant.3 _ _ _ c.loop-place.invariant.1 c.settle-2.ensures.kept
 
 pub returns-clause-part : goal.returns-clause-part
 returns-clause-part g c =
@@ -139,9 +143,10 @@ returns-clause-part g c =
 
 pub returns-in_err-decided-clause-kept : goal.returns-in_err-decided-clause-kept
 returns-in_err-decided-clause-kept g c =
-    keeps_then (Covers c.args.context.now.value c.args.probe) _ _ _ c.loop-place.invariant.1
-    (covers_same c.loop-place.context.value c.args.context.now.value c.args.probe c.loop-place.invariant.0 _ _
-    c.settle.ensures.kept)
+    let file = file_at (map (option_map (λ f. f.value.file)) c.args.answers.now) in
+    keeps_search g.L.AddressLookup.lookup g.L.AddressLookup.asks c.args.context.now.value c.args.probe file
+    c.args.places.now c.loop-place.place-index c.loop-place.context.value c.loop-place.invariant.0
+    c.loop-place.invariant.3 _ _ _ c.loop-place.invariant.1 c.settle.ensures.kept
 
 pub returns-in_err-decided-clause-part : goal.returns-in_err-decided-clause-part
 returns-in_err-decided-clause-part g c =

@@ -1,4 +1,4 @@
-use Rattle.std.proofs.Common.{ap, length, map, option_map, subst, refl, Ok}
+use Rattle.std.proofs.Common.{length, map, option_map, subst, refl, Ok}
 use Rattle.linemap_replay.specs.Replays.{file_at}
 use Rattle.addr2line_context.specs.FrameLoads.{DecidesUnlessWaiting}
 use Rattle.linemap_replay.specs.declared.answer.Answer.TheVariants.{Suspended}

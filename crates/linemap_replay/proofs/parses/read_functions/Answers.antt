@@ -4,7 +4,7 @@ use Rattle.addr2line_context.specs.Error.{Error}
 use Rattle.addr2line_context.specs.FirstAnswers.{FirstAnswers}
 use Rattle.addr2line_context.specs.Histories.{functions_or_refusal, parse_all}
 use Rattle.linemap_replay.proofs.CopiedAnswers.{completion_copy, if_completed, meaning_is_parse}
-use Rattle.linemap_replay.proofs.KeptReads.{by_looks}
+use Rattle.linemap_replay.proofs.KeptReads.{by_looks, reads_no_lines}
 use Rattle.linemap_replay.proofs.PartAnswers.{if_err, parsed_part}
 use Rattle.linemap_replay.proofs.parses.read_functions.Goals as goal
 
@@ -36,5 +36,7 @@ returns-clause-part g c =
 
 pub returns-clause-kept : goal.returns-clause-kept
 returns-clause-kept g c =
-    by_looks (λ n. ⊤) 0 c.args.context.now.units c.parse_functions.new.self.units
-    c.parse_functions.ensures.cost (λ n h. inr tt)
+    let old = c.args.context.now.units in
+    let new = c.parse_functions.new.self.units in
+    by_looks (λ n. ⊥) (λ n. ⊤) 0 old new c.parse_functions.ensures.cost
+    (reads_no_lines (λ n. ⊥) old new c.parse_functions.ensures.lines) (λ n h. inr tt)

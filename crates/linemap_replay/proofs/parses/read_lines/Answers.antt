@@ -1,6 +1,7 @@
 use Rattle.addr2line_context.specs.Contexts.{all_lines_or_refusal}
+use Rattle.addr2line_context.specs.KeptUnits.{AsksForLines}
 use Rattle.linemap_replay.proofs.CopiedAnswers.{completion_copy, meaning_is_result}
-use Rattle.linemap_replay.proofs.KeptReads.{by_looks, reads_none}
+use Rattle.linemap_replay.proofs.KeptReads.{by_looks, reads_no_functions}
 use Rattle.linemap_replay.proofs.parses.read_lines.Goals as goal
 
 pub returns-clause-answer : goal.returns-clause-answer
@@ -11,5 +12,8 @@ returns-clause-answer g c =
 
 pub returns-clause-kept : goal.returns-clause-kept
 returns-clause-kept g c =
-    by_looks (λ n. ⊥) 0 c.args.context.now.units c.parse_lines.new.self.units c.parse_lines.ensures.after.cost
-    (reads_none (λ n. ⊥) c.args.context.now.units c.parse_lines.new.self.units c.parse_lines.ensures.functions)
+    let old = c.args.context.now in
+    let new = c.parse_lines.new.self in
+    by_looks (AsksForLines old.value.plain.context.units) (λ n. ⊥) 0 old.units new.units
+    c.parse_lines.ensures.after.cost c.parse_lines.ensures.reads
+    (reads_no_functions (λ n. ⊥) old.units new.units c.parse_lines.ensures.functions)

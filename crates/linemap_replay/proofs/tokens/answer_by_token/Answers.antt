@@ -1,6 +1,6 @@
 use Rattle.std.proofs.Common.{sym, option_map}
 use Rattle.linemap_replay.proofs.AnsweredTokens.{token_copy, token_left, no_token_copy, no_token_left}
-use Rattle.linemap_replay.proofs.KeptReads.{by_looks, keeps_same, reads_none}
+use Rattle.linemap_replay.proofs.KeptReads.{keeps_same, reads_nothing}
 use Rattle.linemap_replay.proofs.PartAnswers.{if_err, token_part}
 use Rattle.linemap_replay.proofs.tokens.answer_by_token.Goals as goal
 
@@ -35,8 +35,8 @@ returns-in-Some-clause-part g c =
 
 pub returns-in-Some-clause-kept : goal.returns-in-Some-clause-kept
 returns-in-Some-clause-kept g c =
-    by_looks (λ n. ⊥) 0 c.args.context.now.units c.answer_load.new.self.units c.answer_load.ensures.cost
-    (reads_none (λ n. ⊥) c.args.context.now.units c.answer_load.new.self.units c.answer_load.ensures.functions)
+    reads_nothing 0 c.args.context.now.units c.answer_load.new.self.units c.answer_load.ensures.cost
+    c.answer_load.ensures.lines c.answer_load.ensures.functions
 
 pub returns-in-None-clause-kept : goal.returns-in-None-clause-kept
-returns-in-None-clause-kept g c = keeps_same (λ n. ⊥) c.args.context.now.units
+returns-in-None-clause-kept g c = keeps_same (λ n. ⊥) (λ n. ⊥) c.args.context.now.units

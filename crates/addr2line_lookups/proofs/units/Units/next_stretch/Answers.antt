@@ -1,10 +1,11 @@
-use Rattle.std.proofs.Common.{◌∙◌, List, ap, sym, subst, map}
+use Rattle.std.proofs.Common.{◌∙◌, ◌+◌, List, ap, sym, subst, map}
 use Rattle.addr2line_unit.specs.UnitRange.{UnitRange}
 use Rattle.addr2line_unit.specs.ContextUnits.{unit_places, ordered_ranges}
 use Rattle.addr2line_unit.specs.ResolvedUnits.{ResolvedUnit, plain_unit}
 use Rattle.addr2line_lookups.specs.KeptUnits.{KeepsAsked, ReadsAsked, ReadsNoFunctions}
 use Rattle.addr2line_lookups.specs.KeptCalls.{LeavesCalls}
-use Rattle.addr2line_lookups.specs.RangeWalks.{FindsStretch, walk_left, stretches_left, AsksForStretch, StaysOnItsWay}
+use Rattle.addr2line_lookups.specs.LookupCosts.{TakesLooks}
+use Rattle.addr2line_lookups.specs.RangeWalks.{FindsStretch, walk_left, stretches_left, walk_looks, AsksForStretch, StaysOnItsWay}
 use Rattle.addr2line_lookups.proofs.KeptLines.{same_plain}
 use Rattle.addr2line_lookups.proofs.units.Units.next_stretch.Goals as goal
 
@@ -29,6 +30,17 @@ pub returns-clause-calls : goal.returns-clause-calls
 returns-clause-calls g c =
     subst (λ (us : List ResolvedUnit). LeavesCalls us c.next_stretch.new.units.items) c.self.view_is
     c.next_stretch.ensures.change.calls
+
+pub returns-clause-cost : goal.returns-clause-cost
+returns-clause-cost g c =
+    let old = c.args.walk.now in
+    let new = c.next_stretch.new.walk in
+    let takes : List ResolvedUnit → List UnitRange → Type 0 =
+    λ us rs.
+    TakesLooks (walk_looks (map plain_unit us) rs old + 3) (walk_looks (map plain_unit us) rs new) us
+    c.next_stretch.new.units.items in
+    subst (λ (us : List ResolvedUnit). takes us (ordered_ranges (map plain_unit us))) c.self.view_is
+    (subst (takes c.self.inside.units.items) c.self.invariant c.next_stretch.ensures.change.cost)
 
 pub returns-clause-asked : goal.returns-clause-asked
 returns-clause-asked g c = λ answered.

@@ -15,7 +15,7 @@ invariant_of-self g c =
     let i = c.self.inside in
     let new = c.keep_calls.new.self in
     let P : ℕ → Type 0 = λ n. IfOk c.args.read (λ x. x.counter ≡ n) in
-    keeps_functions i.main i.load i.first i.lines i.functions new i.probes.name i.walks c.self.invariant
+    keeps_functions i.main i.load i.first i.lines i.functions new i.probes.name c.self.invariant
     (keeps_calls_after i.main.unit i.load i.first i.functions new i.probes.name c.args.function c.args.read
     c.keep_calls.result c.keep_calls.ensures.ok c.keep_calls.ensures.err
     (subst P (sym (ap (λ (u : ResolvedUnit). u.probes.name) c.self.view_is)) c.requires.counter)

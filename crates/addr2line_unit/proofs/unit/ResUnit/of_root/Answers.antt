@@ -16,18 +16,18 @@ invariant_of-result g c =
     let u = c.args.main in
     let root = c.root.inside in
     let counter = c.args.probes.name in
-    keeps_new u root.ranges.value.items counter c.args.walks c.in_ok-load.load root.lines c.in_ok-lines.lines
+    keeps_new u root.ranges.value.items counter c.in_ok-load.load root.lines c.in_ok-lines.lines
     c.not_read.result c.in_ok-lines.ensures.ok
     (subst (λ (r : RootFacts). RunsForRanges counter r.ranges r.lines (without_runs u) u) (sym c.root.view_is)
-    c.requires.runs)
+    c.requires)
     (load_made c.in_ok-load.load (load_of c.unit.result.now) c.in_ok-load.ensures ∙ ap load_of c.unit.ensures)
-    c.not_read.ensures c.requires.walks
+    c.not_read.ensures
 
 pub returns-clause-lines : goal.returns-clause-lines
 returns-clause-lines g c =
     let u = c.args.main in
     let root = c.root.inside in
     let counter = c.args.probes.name in
-    ranges_new u root.ranges.value.items counter c.args.walks root.lines c.in_ok-lines.lines c.in_ok-lines.ensures.ok
+    ranges_new u root.ranges.value.items counter root.lines c.in_ok-lines.lines c.in_ok-lines.ensures.ok
     (subst (λ (r : RootFacts). RunsForRanges counter r.ranges r.lines (without_runs u) u) (sym c.root.view_is)
-    c.requires.runs)
+    c.requires)

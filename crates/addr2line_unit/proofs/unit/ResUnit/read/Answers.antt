@@ -1,4 +1,4 @@
-use Rattle.std.proofs.Common.{◌≡◌, ◌∙◌, ap, subst, Ok, Err}
+use Rattle.std.proofs.Common.{◌≡◌, ◌∙◌, ap, subst, sym, Ok, Err}
 use Rattle.std.proofs.lemmas.Result.{err_from_is_err_and}
 use Rattle.addr2line_functions.specs.Results.{and_then}
 use Rattle.addr2line_functions.specs.EntryRows.{Row}
@@ -6,6 +6,8 @@ use Rattle.addr2line_functions.specs.EntryViews.{entry_of}
 use Rattle.addr2line_functions.specs.UnitFacts.{UnitInFile}
 use Rattle.addr2line_functions.specs.UnitLines.{lines_of_unit}
 use Rattle.addr2line_functions.specs.Contexts.{unit_of_entry}
+use Rattle.addr2line_root.specs.LastRanges.{LastRanges, AreLastFor, maker_of, counter_of}
+use Rattle.addr2line_root.specs.ProbedLists.{ProbeCount}
 use Rattle.addr2line_unit.specs.ResolvedUnits.{without_answer}
 use Rattle.addr2line_unit.proofs.NewUnits.{unit_by_root}
 use Rattle.addr2line_unit.proofs.unit.ResUnit.read.Goals as goal
@@ -20,3 +22,23 @@ returns-in_err-root-clause-unit g c =
     (unit_by_root u r c.requires.root
     ∙ subst (λ (w : UnitInFile). unit_of_entry w (lines_of_unit w) r ≡ Err c.in_err-root.field-0.0)
     c.new-unit.ensures.unit (c.in_err-root.ensures.unit m)))
+
+-- one more counter leaves what was read last
+pub read-requires-clause-last : goal.read-requires-clause-last
+read-requires-clause-last g c =
+    let last = c.counter-probes.new.self in
+    subst (λ (u : UnitInFile). AreLastFor u last) (sym c.new-unit.ensures.unit)
+    (subst (λ (l : LastRanges). AreLastFor c.args.main l) (sym c.counter-probes.ensures.made) c.requires.last)
+
+pub read-requires-clause-counter : goal.read-requires-clause-counter
+read-requires-clause-counter g c =
+    ap (λ (p : ProbeCount). p.name) c.counter-probes.ensures.counter
+    ∙ sym (ap (λ (l : LastRanges). counter_of l) c.counter-probes.ensures.made)
+
+pub returns-in_err-root-clause-counters : goal.returns-in_err-root-clause-counters
+returns-in_err-root-clause-counters g c =
+    c.in_err-root.ensures.counters ∙ ap (λ (l : LastRanges). maker_of l) c.counter-probes.ensures.made
+
+pub returns-clause-counters : goal.returns-clause-counters
+returns-clause-counters g c =
+    c.in_ok-root.ensures.counters ∙ ap (λ (l : LastRanges). maker_of l) c.counter-probes.ensures.made

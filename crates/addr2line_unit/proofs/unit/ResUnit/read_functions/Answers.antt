@@ -23,7 +23,7 @@ invariant_of-self g c =
     let P : Result (List Function) Error → Type 0 = λ m.
     ReturnsAsOrNoMemory (λ (f : CountedFunctions). f.functions) read m in
     let Q : ℕ → Type 0 = λ n. IfOk read (λ f. f.counter ≡ n) in
-    keeps_functions i.main i.load i.first i.lines i.functions c.keep.new.self i.probes.name i.walks c.self.invariant
+    keeps_functions i.main i.load i.first i.lines i.functions c.keep.new.self i.probes.name c.self.invariant
     (keeps_read_after i.main.unit i.load i.first i.functions c.keep.new.self i.probes.name read c.keep.result
     c.keep.ensures.ok c.keep.ensures.answer c.keep.ensures.err is_decided
     (subst P (sym meaning) c.parse_functions-functions.ensures.functions)

@@ -5,7 +5,7 @@ use Rattle.addr2line_unit.proofs.unit.ResUnit.read_lines.Goals as goal
 pub invariant_of-self-2 : goal.invariant_of-self-2
 invariant_of-self-2 g c =
     let i = c.self.inside in
-    keeps_run i.main c.run.new.unit i.load i.first i.lines c.keep.new.self i.functions i.probes.name i.walks
+    keeps_run i.main c.run.new.unit i.load i.first i.lines c.keep.new.self i.functions i.probes.name
     c.keep.result c.in_ok-lines.lines c.self.invariant (sym c.is_read.ensures ∙ c.if-is_read.false)
     c.in_ok-lines.ensures.lines c.in_ok-lines.ensures.counted c.keep.ensures.ok c.keep.ensures.cause
     c.in_ok-lines.ensures.answer

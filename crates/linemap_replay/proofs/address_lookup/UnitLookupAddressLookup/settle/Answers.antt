@@ -1,5 +1,6 @@
+use Rattle.addr2line_context.specs.ContextCosts.{unit_search}
 use Rattle.addr2line_context.proofs.UnitLoads.{first_load_of_unit}
-use Rattle.linemap_replay.proofs.KeptReads.{unit_searched}
+use Rattle.linemap_replay.proofs.KeptReads.{searched}
 use Rattle.linemap_replay.proofs.address_lookup.UnitLookupAddressLookup.settle.Goals as goal
 
 pub returns-clause-first : goal.returns-clause-first
@@ -7,4 +8,4 @@ returns-clause-first g c = first_load_of_unit c.args.context.now.value c.args.pr
 
 pub returns-clause-kept : goal.returns-clause-kept
 returns-clause-kept g c =
-    unit_searched c.args.probe c.args.context.now c.settle_unit.new.context _ c.settle_unit.ensures.after
+    searched unit_search _ c.args.probe c.args.context.now c.settle_unit.new.context c.settle_unit.ensures.after
