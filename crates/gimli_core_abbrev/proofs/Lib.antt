@@ -28,3 +28,4 @@ pub mod WidthSums
 mod CountedPrefixes
 mod ReadFacts
 mod AddedAttributes
+mod FormRows

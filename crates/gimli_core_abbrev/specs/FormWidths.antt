@@ -83,9 +83,15 @@ abbrev pub total_width : Encoding → FixedWidths → ℕ
 total_width encoding w =
     w.bytes + w.addresses * encoding.address_size + w.offsets * word_size encoding.format
 
--- those of one attribute
-abbrev pub IsOfOne : FixedWidths → Type 0
-IsOfOne w = (w.attributes ≡ 1) × (w.bytes ≤ 16) × (w.addresses ≤ 1) × (w.offsets ≤ 1)
+-- those of one attribute, or of none
+abbrev pub IsOfAtMostOne : FixedWidths → Type 0
+IsOfAtMostOne w =
+    (w.attributes ≤ 1) × (w.bytes ≤ 16 * w.attributes) × (w.addresses ≤ w.attributes)
+    × (w.offsets ≤ w.attributes)
+
+-- the bytes of its value, if they are of one
+abbrev pub width_of_one : Encoding → FixedWidths → Option ℕ
+width_of_one encoding w = if w.attributes == 0 then None else Some (total_width encoding w)
 
 -- how many attributes have these widths
 abbrev pub count_of_widths : FixedWidths → ℕ

@@ -237,7 +237,7 @@ fn push_next<E: Endianity>(
 }
 
 // Reads the attributes of a declaration, and appends them to a list.
-#[inline(always)]
+#[inline(never)]
 #[tactic(auto, unfolding(crate::specs::TableParsing::attributes))]
 fn parse_attributes<E: Endianity>(
     input: &mut EndianSlice<'_, E>,

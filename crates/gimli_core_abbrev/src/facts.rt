@@ -1,6 +1,6 @@
 //! Facts about the attributes of a declaration, found once these are read.
 
-ghost use Rattle.std.specs.Prelude.{◌≡◌, ◌||◌, List, [], ◌∷◌, ◌++◌, map};
+ghost use Rattle.std.specs.Prelude.{◌≡◌, ◌≤◌, ◌==◌, if◌then◌else◌, ◌||◌, List, [], ◌∷◌, ◌++◌, map};
 ghost use Rattle.gimli_core_abbrev.specs.AttributeViews.{attribute_view};
 ghost use Rattle.gimli_core_abbrev.specs.Declarations.{Attribute};
 ghost use Rattle.gimli_core_abbrev.specs.DeclarationFacts.{is_of_ranges, FitsInBytes, KnowsRead};
@@ -65,24 +65,28 @@ impl AttributeFacts {
             → KnowsRead result (before ++ attribute_view attribute ∷ []) }
         ensures fits { FitsInBytes result }
     {
-        let has_ranges = self.has_ranges_with(attribute.name());
-        if self.room != 0 {
-            if let Some(widths) = FixedWidths::of_form(attribute.form()) {
-                return AttributeFacts {
-                    has_ranges,
-                    bytes: self.bytes + u32::from(widths.bytes),
-                    addresses: self.addresses + u32::from(widths.addresses),
-                    offsets: self.offsets + u32::from(widths.offsets),
-                    counted: self.counted + 1,
-                    room: self.room - 1,
-                };
-            }
-        }
+        let widths = FixedWidths::of_form(attribute.form());
+        let count = self.count_of(widths);
+        // sums of products, and no branch on the form, which could not be predicted
         AttributeFacts {
-            has_ranges,
-            room: 0,
-            ..self
+            has_ranges: self.has_ranges_with(attribute.name()),
+            bytes: self.bytes + count * u32::from(widths.bytes),
+            addresses: self.addresses + count * u32::from(widths.addresses),
+            offsets: self.offsets + count * u32::from(widths.offsets),
+            counted: self.counted + count,
+            room: count * (self.room - count),
         }
+    }
+
+    // How many attributes of these widths are counted further: none where there is no room.
+    #[inline(always)]
+    fn count_of(self, widths: FixedWidths) -> u32
+        requires { widths.attributes ≤ 1 }
+        ensures value { result ≡ (if self.room == 0 then 0 else widths.attributes) }
+        ensures one { result ≤ 1 }
+        ensures room { result ≤ self.room }
+    {
+        u32::from(widths.attributes) * self.room.min(1)
     }
 
     // Whether one of the attributes, or one more of this name, gives an entry's addresses.
@@ -90,7 +94,7 @@ impl AttributeFacts {
     fn has_ranges_with(self, name: DwAt) -> bool
         ensures { result ≡ (self.has_ranges || is_of_ranges name.0) }
     {
-        self.has_ranges || is_of_ranges(name)
+        self.has_ranges | is_of_ranges(name)
     }
 
     // Whether one of the attributes gives an entry's addresses.
@@ -122,5 +126,5 @@ impl AttributeFacts {
 fn is_of_ranges(name: DwAt) -> bool
     ensures { result ≡ is_of_ranges name.0 }
 {
-    name == DW_AT_low_pc || name == DW_AT_high_pc || name == DW_AT_ranges
+    (name == DW_AT_low_pc) | (name == DW_AT_high_pc) | (name == DW_AT_ranges)
 }

@@ -242,6 +242,12 @@ impl Abbreviations {
     }
 }
 
+// Room for as many declarations and attributes is taken before the first, so that few tables have to
+// be moved while they grow.
+const FIRST_DECLARATIONS: usize = 64;
+
+const FIRST_ATTRIBUTES: usize = 256;
+
 // Reads declarations up to the code 0 or the end of the bytes.
 #[tactic(auto, unfolding(crate::specs::TableLayout::declaration_list))]
 pub(crate) fn parse_list<E: Endianity>(
@@ -250,8 +256,8 @@ pub(crate) fn parse_list<E: Endianity>(
 ) -> Result<DeclarationList, Error>
     ensures { ReturnsAsOrNoMemory (λ l. (l, input.new)) result (declaration_list input.old) }
 {
-    let mut declarations = Vec::new(alloc);
-    let mut attributes = Vec::new(alloc);
+    let mut declarations = Vec::with_capacity(alloc, FIRST_DECLARATIONS)?;
+    let mut attributes = Vec::with_capacity(alloc, FIRST_ATTRIBUTES)?;
     let mut in_order: usize = 0;
     let mut others = Vec::new(alloc);
     let mut places = BTreeMap::new(alloc);

@@ -1,17 +1,10 @@
 //! How many bytes the first values of an entry have, where the forms alone say it.
 
-ghost use Rattle.std.specs.Prelude.{◌≡◌, option_map, IfSome};
+ghost use Rattle.std.specs.Prelude.{◌≡◌, ◌≤◌};
 ghost use Rattle.gimli_core_readers.specs.Encoding.{Encoding};
-ghost use Rattle.gimli_core_abbrev.specs.FormWidths.{IsOfOne, count_of_widths, fixed_width_of, total_width};
+ghost use Rattle.gimli_core_abbrev.specs.FormWidths.{IsOfAtMostOne, count_of_widths, fixed_width_of, total_width, width_of_one};
 
-use gimli_core_readers::{
-    DW_FORM_GNU_ref_alt, DW_FORM_GNU_strp_alt, DW_FORM_addr, DW_FORM_addrx1, DW_FORM_addrx2,
-    DW_FORM_addrx3, DW_FORM_addrx4, DW_FORM_data1, DW_FORM_data2, DW_FORM_data4, DW_FORM_data8,
-    DW_FORM_data16, DW_FORM_flag, DW_FORM_flag_present, DW_FORM_implicit_const, DW_FORM_line_strp,
-    DW_FORM_ref_sig8, DW_FORM_ref_sup4, DW_FORM_ref_sup8, DW_FORM_ref1, DW_FORM_ref2, DW_FORM_ref4,
-    DW_FORM_ref8, DW_FORM_sec_offset, DW_FORM_strp, DW_FORM_strp_sup, DW_FORM_strx1, DW_FORM_strx2,
-    DW_FORM_strx3, DW_FORM_strx4, DwForm, Encoding,
-};
+use gimli_core_readers::{DW_FORM_GNU_ref_alt, DW_FORM_GNU_strp_alt, DwForm, Encoding};
 
 /// The bytes of the first values of an entry, known before the encoding is: plain bytes, addresses
 /// and offsets. They end before the first form whose width depends on the bytes or on the version
@@ -23,6 +16,114 @@ pub struct FixedWidths {
     pub(crate) offsets: u8,
     pub(crate) attributes: u8,
 }
+
+// Of no attribute: the width of the form depends on the bytes or on the version of the standard.
+const UNKNOWN: FixedWidths = FixedWidths {
+    bytes: 0,
+    addresses: 0,
+    offsets: 0,
+    attributes: 0,
+};
+
+// Of one attribute of n bytes.
+const BYTES_0: FixedWidths = FixedWidths {
+    attributes: 1,
+    ..UNKNOWN
+};
+
+const BYTES_1: FixedWidths = FixedWidths {
+    bytes: 1,
+    ..BYTES_0
+};
+
+const BYTES_2: FixedWidths = FixedWidths {
+    bytes: 2,
+    ..BYTES_0
+};
+
+const BYTES_3: FixedWidths = FixedWidths {
+    bytes: 3,
+    ..BYTES_0
+};
+
+const BYTES_4: FixedWidths = FixedWidths {
+    bytes: 4,
+    ..BYTES_0
+};
+
+const BYTES_8: FixedWidths = FixedWidths {
+    bytes: 8,
+    ..BYTES_0
+};
+
+const BYTES_16: FixedWidths = FixedWidths {
+    bytes: 16,
+    ..BYTES_0
+};
+
+// Of one attribute that is an address.
+const ADDRESS: FixedWidths = FixedWidths {
+    addresses: 1,
+    ..BYTES_0
+};
+
+// Of one attribute that is an offset.
+const OFFSET: FixedWidths = FixedWidths {
+    offsets: 1,
+    ..BYTES_0
+};
+
+// How many forms there are in the standard, from 0 on.
+const FORMS: usize = 45;
+
+// Of one attribute of each form of the standard (DWARF 5, 7.5.6).
+static OF_FORMS: [FixedWidths; FORMS] = [
+    UNKNOWN, // 0x00 is no form
+    ADDRESS, // DW_FORM_addr
+    UNKNOWN, // 0x02 is no form
+    UNKNOWN, // DW_FORM_block2
+    UNKNOWN, // DW_FORM_block4
+    BYTES_2, // DW_FORM_data2
+    BYTES_4, // DW_FORM_data4
+    BYTES_8, // DW_FORM_data8
+    UNKNOWN, // DW_FORM_string
+    UNKNOWN, // DW_FORM_block
+    UNKNOWN, // DW_FORM_block1
+    BYTES_1, // DW_FORM_data1
+    BYTES_1, // DW_FORM_flag
+    UNKNOWN, // DW_FORM_sdata
+    OFFSET, // DW_FORM_strp
+    UNKNOWN, // DW_FORM_udata
+    UNKNOWN, // DW_FORM_ref_addr
+    BYTES_1, // DW_FORM_ref1
+    BYTES_2, // DW_FORM_ref2
+    BYTES_4, // DW_FORM_ref4
+    BYTES_8, // DW_FORM_ref8
+    UNKNOWN, // DW_FORM_ref_udata
+    UNKNOWN, // DW_FORM_indirect
+    OFFSET, // DW_FORM_sec_offset
+    UNKNOWN, // DW_FORM_exprloc
+    BYTES_0, // DW_FORM_flag_present
+    UNKNOWN, // DW_FORM_strx
+    UNKNOWN, // DW_FORM_addrx
+    BYTES_4, // DW_FORM_ref_sup4
+    OFFSET, // DW_FORM_strp_sup
+    BYTES_16, // DW_FORM_data16
+    OFFSET, // DW_FORM_line_strp
+    BYTES_8, // DW_FORM_ref_sig8
+    BYTES_0, // DW_FORM_implicit_const
+    UNKNOWN, // DW_FORM_loclistx
+    UNKNOWN, // DW_FORM_rnglistx
+    BYTES_8, // DW_FORM_ref_sup8
+    BYTES_1, // DW_FORM_strx1
+    BYTES_2, // DW_FORM_strx2
+    BYTES_3, // DW_FORM_strx3
+    BYTES_4, // DW_FORM_strx4
+    BYTES_1, // DW_FORM_addrx1
+    BYTES_2, // DW_FORM_addrx2
+    BYTES_3, // DW_FORM_addrx3
+    BYTES_4, // DW_FORM_addrx4
+];
 
 impl FixedWidths {
     /// How many attributes have these widths.
@@ -43,42 +144,33 @@ impl FixedWidths {
             + self.offsets as usize * encoding.format.word_size() as usize
     }
 
-    // Of one attribute of a form, if its width is the same in each version of the standard.
+    // Of one attribute of a form, if its width is the same in each version of the standard; else of
+    // none.
     #[inline(always)]
-    pub(crate) fn of_form(form: DwForm) -> Option<Self>
-        ensures small { IfSome result IsOfOne }
+    pub(crate) fn of_form(form: DwForm) -> Self
+        ensures small { IsOfAtMostOne result }
         ensures width { (encoding : Encoding)
-            → fixed_width_of encoding form.0 ≡ option_map (total_width encoding) result }
+            → fixed_width_of encoding form.0 ≡ width_of_one encoding result }
     {
-        let mut widths = FixedWidths {
-            bytes: 0,
-            addresses: 0,
-            offsets: 0,
-            attributes: 1,
-        };
-        match form {
-            DW_FORM_addr => widths.addresses = 1,
-            DW_FORM_strp
-            | DW_FORM_sec_offset
-            | DW_FORM_strp_sup
-            | DW_FORM_line_strp
-            | DW_FORM_GNU_ref_alt
-            | DW_FORM_GNU_strp_alt => widths.offsets = 1,
-            DW_FORM_flag_present | DW_FORM_implicit_const => {}
-            DW_FORM_data1 | DW_FORM_flag | DW_FORM_ref1 | DW_FORM_strx1 | DW_FORM_addrx1 => {
-                widths.bytes = 1;
-            }
-            DW_FORM_data2 | DW_FORM_ref2 | DW_FORM_strx2 | DW_FORM_addrx2 => widths.bytes = 2,
-            DW_FORM_strx3 | DW_FORM_addrx3 => widths.bytes = 3,
-            DW_FORM_data4 | DW_FORM_ref4 | DW_FORM_ref_sup4 | DW_FORM_strx4 | DW_FORM_addrx4 => {
-                widths.bytes = 4;
-            }
-            DW_FORM_data8 | DW_FORM_ref8 | DW_FORM_ref_sig8 | DW_FORM_ref_sup8 => {
-                widths.bytes = 8;
-            }
-            DW_FORM_data16 => widths.bytes = 16,
-            _ => return None,
+        let row = form.0 as usize;
+        if row < FORMS {
+            OF_FORMS[row]
+        } else {
+            FixedWidths::of_vendor_form(form)
         }
-        Some(widths)
+    }
+
+    // Of one attribute of a form that comes after those of the standard.
+    #[inline(always)]
+    fn of_vendor_form(form: DwForm) -> Self
+        requires { FORMS ≤ form.0 }
+        ensures small { IsOfAtMostOne result }
+        ensures width { (encoding : Encoding)
+            → fixed_width_of encoding form.0 ≡ width_of_one encoding result }
+    {
+        match form {
+            DW_FORM_GNU_ref_alt | DW_FORM_GNU_strp_alt => OFFSET,
+            _ => UNKNOWN,
+        }
     }
 }

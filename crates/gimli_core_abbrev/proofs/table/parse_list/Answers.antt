@@ -42,7 +42,7 @@ pub returns-in_err-parsed : goal.returns-in_err-parsed
 returns-in_err-parsed g c =
     let l = c.reading in
     let was = l.invariant in
-    returns_refused _ c.from_residual.result _ _ c.from_residual.ensures.1
+    returns_refused _ c.from_residual-in_err-parsed.result _ _ c.from_residual-in_err-parsed.ensures.1
     (λ ne. list_fault (stored l.in_order l.others.items l.attributes.items l.declarations.items) _ _ _ was.listing
     was.layout.once (c.in_err-parsed.ensures.value ne))
 
