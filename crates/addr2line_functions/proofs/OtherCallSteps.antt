@@ -1,5 +1,5 @@
 -- Entries below a function that are skipped: they are no calls, and the nesting stays.
-use Rattle.std.proofs.Common.{◌≡◌, ℕ, ◌≤◌, ℤ, pos, ◌≤ℤ◌, ◌<ℤ◌, int_lt, Bool, true, false, cond, ◌&&◌, ◌||◌, ◌==◌, List, [], ◌∷◌, length, Option, Some, None, is_none, refl, sym, ap, subst, ◌∙◌, arith}
+use Rattle.std.proofs.Common.{◌≡◌, ℕ, ◌≤◌, ℤ, pos, ◌≤ℤ◌, ◌<ℤ◌, int_lt, Bool, true, false, cond, ◌||◌, ◌==◌, List, [], ◌∷◌, length, Option, Some, None, refl, sym, ap, subst, ◌∙◌, arith}
 use Rattle.std.proofs.lemmas.Int.{ints}
 use Rattle.std.proofs.lemmas.Bool.Decides.{nat_tests}
 use Rattle.gimli_units_entries.specs.View.{bytes_left}
@@ -10,9 +10,9 @@ use Rattle.gimli_units_entries.specs.OtherEntries.{is_tag_of, after_other, skip_
 use Rattle.gimli_units_entries.proofs.OtherEntryLemmas.{skip_others-keeps}
 use Rattle.addr2line_names.specs.UnitFacts.{UnitInFile}
 use Rattle.addr2line_ranges.specs.Functions.{is_subprogram}
-use Rattle.addr2line_ranges.specs.InlinedCalls.{Naming, Call, enclosing_rows, is_inlined}
-use Rattle.addr2line_ranges.proofs.EntryLevels.{leads, lt_from, not_lt_from, lt_is, not_lt_is, enclosing_rows-same}
-use Rattle.addr2line_functions.specs.CallNesting.{Nesting, no_nesting, leave, shallower, if_shallower, inside_of, nesting_tags, nearest, skip_inside_of, skip_inside, is_call_where, call_depth, call_if, calls_from}
+use Rattle.addr2line_ranges.specs.InlinedCalls.{Naming, enclosing_rows, is_inlined}
+use Rattle.addr2line_ranges.proofs.EntryLevels.{leads, lt_from, lt_is, not_lt_is, enclosing_rows-same}
+use Rattle.addr2line_functions.specs.CallNesting.{Nesting, no_nesting, leave, shallower, inside_of, nesting_tags, nearest, skip_inside_of, skip_inside, is_call_where, call_depth, call_if, calls_from}
 use Rattle.addr2line_functions.proofs.OtherEntrySteps.{other_row, others_within}
 use Rattle.addr2line_functions.proofs.NestingLemmas.{Matches, nesting_of, opens, leave-twice, is_in_all}
 use Rattle.addr2line_functions.proofs.CallEntrySteps.{calls_then-none, HasEntry, calls-more}

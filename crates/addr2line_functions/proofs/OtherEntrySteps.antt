@@ -1,6 +1,5 @@
 -- Entries that are skipped, as rows whose attributes are skipped.
-use Rattle.std.proofs.Common.{◌≡◌, ℕ, ◌<◌, ◌≤◌, ℤ, Bool, true, false, cond, List, [], ◌∷◌, Option, Some, None, Result, Ok, Err, refl, sym, ap, ◌∙◌, arith}
-use Rattle.std.proofs.lemmas.Bool.Decides.{nat_tests}
+use Rattle.std.proofs.Common.{◌≡◌, ℕ, ◌≤◌, ℤ, Bool, true, false, cond, List, [], Option, Some, None, Result, Ok, Err, refl, ap, ◌∙◌, arith}
 use Rattle.gimli_units_entries.specs.Error.{Error}
 use Rattle.gimli_units_entries.specs.View.{View, bytes_left}
 use Rattle.gimli_units_entries.specs.Parsers.{proceed, give}
@@ -8,10 +7,10 @@ use Rattle.addr2line_ranges.specs.Declarations.{Declaration}
 use Rattle.gimli_units_entries.specs.AttributeValues.{RawAttribute}
 use Rattle.gimli_units_entries.specs.AttributeSkipping as form_skips
 use Rattle.gimli_units_entries.specs.AttributeReading as forms
-use Rattle.gimli_units_entries.specs.EntryWalks.{Walk, next_offset, read_in_walk, walk_with_rest, entry_head, skip_values}
+use Rattle.gimli_units_entries.specs.EntryWalks.{Walk, next_offset, walk_with_rest, entry_head, skip_values}
 use Rattle.gimli_units_entries.specs.EntryRows.{Row, row_of, row_choosing}
-use Rattle.gimli_units_entries.specs.OtherEntries.{is_tag_of, after_attributes, after_unless, after_code, after_other, skip_others}
-use Rattle.gimli_units_entries.proofs.RowParts.{HasHead, HasRow, walk_after_code, entry_head-parts, read_in_walk-Ok, row-from}
+use Rattle.gimli_units_entries.specs.OtherEntries.{after_attributes, after_unless, after_code, after_other, skip_others}
+use Rattle.gimli_units_entries.proofs.RowParts.{HasHead, walk_after_code, entry_head-parts, read_in_walk-Ok, row-from}
 use Rattle.gimli_units_entries.proofs.OtherEntryLemmas.{other-parts, skips-fewer, skip_others-keeps}
 
 -- the row of an entry that is skipped, after which a walk goes on

@@ -1,14 +1,18 @@
 -- The ranges of an entry come from the attributes of three names alone (DWARF 5, 2.17).
-use Rattle.std.proofs.Common.{◌≡◌, ℕ, Bool, true, false, cond, ◌||◌, ◌==◌, List, [], ◌∷◌, filter, Option, None, Result, Ok, Err, refl, sym, ap, ◌∙◌, arith}
-use Rattle.std.specs.List.{filter_map, cons_option, last_or}
+use Rattle.std.proofs.Common.{◌≡◌, ℕ, Bool, true, false, cond, ◌||◌, ◌==◌, List, [], ◌∷◌, filter, Option, None, Result, Ok, Err, refl, sym, ap, subst, ◌∙◌, arith}
+use Rattle.std.specs.List.{filter_map, cons_option, last_or, list_any}
 use Rattle.std.proofs.lemmas.Bool.Decides.{nat_tests}
 use Rattle.gimli_units_entries.specs.Error.{Error}
+use Rattle.gimli_units_entries.specs.Calls.{ReadsAsOrNoMemory, StepsAsOrNoMemory}
+use Rattle.gimli_units_entries.specs.Parsers.{Step}
 use Rattle.gimli_units_entries.specs.Range.{Range}
 use Rattle.gimli_units_entries.specs.TheConstants.{DW_AT_low_pc, DW_AT_high_pc, DW_AT_ranges}
 use Rattle.gimli_units_entries.specs.AttributeValues.{RawAttribute}
 use Rattle.gimli_units_entries.specs.NamedAttributes.{is_name_of}
 use Rattle.gimli_units_entries.specs.Results.{and_then, each}
 use Rattle.addr2line_names.specs.UnitFacts.{UnitInFile, is_low_pc}
+use Rattle.addr2line_names.specs.DeclarationFacts.{is_of_ranges, names_ranges}
+use Rattle.addr2line_ranges.specs.Declarations.{Attribute}
 use Rattle.addr2line_ranges.specs.UnitRanges.{RangeFact, begins_at, ends_at, has_size, has_list, no_fact, is_high_pc, is_ranges, fact_of, begin_in, end_in, size_in, list_in, last_of, low_to_high}
 use Rattle.addr2line_ranges.specs.EntryRanges.{ranges_of_facts, ranges_of_entry}
 use Rattle.addr2line_ranges.specs.LastFacts.{entry_ranges_in}
@@ -89,6 +93,13 @@ last_of-facts : {A : Type 0} (kind : RangeFact → Option A) → kind no_fact �
     → last_of kind (filter is_fact fs) ≡ last_of kind fs
 last_of-facts kind none fs = ap (last_or None) (filter_map-filter is_fact kind (none_of_kind kind none) fs)
 
+-- ---- steps
+
+-- a call that does what a step says does what another one says that gives the same there
+pub steps_alike : {A B S : Type 0} (see : A → B) (result : Result A Error) (old new : S) (p q : Step S B)
+    → p old ≡ q old → StepsAsOrNoMemory see result old new p → StepsAsOrNoMemory see result old new q
+steps_alike see result old new p q same h = subst (λ r. ReadsAsOrNoMemory see result old new r) same h
+
 -- ---- names
 
 -- the attributes that are kept by a list of the names that say something of ranges
@@ -103,11 +114,30 @@ or_false : (b : Bool) → (b || false) ≡ b
 or_false true = refl
 or_false false = refl
 
+or_or : (x y z : Bool) → (x || y || z) ≡ (x || (y || z))
+or_or true y z = refl
+or_or false y z = refl
+
 by_list : (n : ℕ) → is_name_of (DW_AT_low_pc ∷ DW_AT_high_pc ∷ DW_AT_ranges ∷ []) n ≡ is_ranging n
 by_list n =
     ap (λ b. b || (DW_AT_high_pc.0 == n || (DW_AT_ranges.0 == n || false))) (flip DW_AT_low_pc.0 n)
     ∙ ap (λ b. is_low_pc n || (b || (DW_AT_ranges.0 == n || false))) (flip DW_AT_high_pc.0 n)
     ∙ ap (λ b. is_low_pc n || (is_high_pc n || b)) (or_false (DW_AT_ranges.0 == n) ∙ flip DW_AT_ranges.0 n)
+
+abbrev is_named : Attribute → Bool
+is_named s = is_name_of (DW_AT_low_pc ∷ DW_AT_high_pc ∷ DW_AT_ranges ∷ []) s.name
+
+-- declarations that name none of these
+pub without_ranges : (ss : List Attribute) → names_ranges ss ≡ false → list_any is_named ss ≡ false
+without_ranges [] none = refl
+without_ranges (s ∷ ss) none =
+    by_first (is_of_ranges s.name) (names_ranges ss)
+    (by_list s.name ∙ sym (or_or (is_low_pc s.name) (is_high_pc s.name) (is_ranges s.name))) (without_ranges ss) none
+  where
+    by_first : (first rest : Bool) → is_named s ≡ first → (rest ≡ false → list_any is_named ss ≡ false)
+        → (first || rest) ≡ false → (is_named s || list_any is_named ss) ≡ false
+    by_first true rest is others none = absurd cc
+    by_first false rest is others none = ap (λ b. b || list_any is_named ss) is ∙ others none
 
 none_of : (x y z : Bool) → (x || (y || z)) ≡ false → (x ≡ false) × (y ≡ false) × (z ≡ false)
 none_of true y z none = absurd cc

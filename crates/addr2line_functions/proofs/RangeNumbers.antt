@@ -1,6 +1,6 @@
 -- The ranges of items with the items' numbers: of one item more, and the one that holds an address.
-use Rattle.std.proofs.Common.{◌≡◌, ℕ, ◌+◌, ◌<◌, Bool, ◌==◌, List, [], ◌∷◌, ◌++◌, length, take, get_or, map, filter, slice_get, Option, Some, None, option_map, Result, Ok, refl, sym, ap, ◌∙◌, arith, append_assoc, append-nil}
-use Rattle.std.proofs.lemmas.List.{take_more, map-append, length-take}
+use Rattle.std.proofs.Common.{◌≡◌, ℕ, ◌+◌, Bool, ◌==◌, List, [], ◌∷◌, ◌++◌, length, map, filter, slice_get, Option, Some, None, option_map, Result, Ok, refl, sym, ap, ◌∙◌, arith, append_assoc, append-nil}
+use Rattle.std.proofs.lemmas.List.{map-append}
 use Rattle.std.proofs.lemmas.Simd.{map-map}
 use Rattle.gimli_units_entries.specs.Error.{Error}
 use Rattle.gimli_units_entries.specs.Range.{Range}
@@ -38,14 +38,17 @@ module _ {U : Type 0} (depth : U → ℕ) (ranges : U → List Range) where
       (sym (map-append (numbered_range depth) here (pairs_from ranges (n + 1) us)))
       ∙ ap (λ k. map (numbered_range depth) (pairs_from ranges n (x ∷ us)) ++ of_number (depth u) k (ranges u)) same
 
-  pub numbered_ranges-more : (us : List U) (i : ℕ) (u : U) → i < length us → u ≡ get_or us i u
-      → numbered_ranges depth ranges (take i us) ++ of_number (depth u) i (ranges u)
-      ≡ numbered_ranges depth ranges (take (i + 1) us)
-  numbered_ranges-more us i u below here =
-      let place : i ≡ 0 + length (take i us) = grind (arith, length-take) in
-      ap (λ k. numbered_ranges depth ranges (take i us) ++ of_number (depth u) k (ranges u)) place
-      ∙ sym (pairs-append 0 (take i us) u)
-      ∙ ap (λ l. numbered_ranges depth ranges l) (ap (λ x. take i us ++ x ∷ []) here ∙ sym (take_more us i u below))
+  -- with its ranges those of all are numbered
+  pub numbered_ranges-more : (us vs : List U) (u : U) (all more : List NumberedRange) (d n : ℕ) (rs : List Range)
+      → all ≡ numbered_ranges depth ranges us → more ≡ all ++ of_number d n rs → d ≡ depth u → rs ≡ ranges u
+      → n ≡ length us → vs ≡ us ++ u ∷ [] → more ≡ numbered_ranges depth ranges vs
+  numbered_ranges-more us vs u all more d n rs numbered is at has last with =
+      let place : n ≡ 0 + length us = omega arith in
+      is ∙ ap (λ l. l ++ of_number d n rs) numbered
+      ∙ ap (λ k. numbered_ranges depth ranges us ++ of_number k n rs) at
+      ∙ ap (λ l. numbered_ranges depth ranges us ++ of_number (depth u) n l) has
+      ∙ ap (λ k. numbered_ranges depth ranges us ++ of_number (depth u) k (ranges u)) place
+      ∙ sym (pairs-append 0 us u) ∙ ap (numbered_ranges depth ranges) (sym with)
 
   -- ---- the one that holds an address
 

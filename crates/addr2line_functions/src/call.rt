@@ -7,12 +7,16 @@ ghost use Rattle.addr2line_functions.specs.CountedFunctions.{depth_of_call};
 use crate::numbered_range::HasRanges;
 use gimli_units_entries::{Range, Reader, UnitOffset};
 use std::marker::Model;
+use std::snapshot::Snapshot;
 
-/// A call of a function whose body is in that of another (DWARF 5, 3.3.8).
+/// A call of a function whose body is in that of another (DWARF 5, 3.3.8). Contracts see its depth
+/// and its ranges too.
 pub struct Call<R: Reader> {
-    pub(crate) depth: usize,
+    // How many other calls it is in. It takes no bytes: `FunctionCalls` has it with the ranges.
+    pub(crate) depth: Snapshot<usize>,
     pub(crate) offset: UnitOffset<R::Offset>,
-    pub(crate) ranges: Vec<Range>,
+    // In order of appearance. It takes no bytes: `FunctionCalls` has the ranges of all.
+    pub(crate) ranges: Snapshot<Vec<Range>>,
     pub(crate) name: Option<R>,
     pub(crate) file: Option<u64>,
     pub(crate) line: u32,
@@ -40,9 +44,9 @@ impl<R: Reader> Model for Call<R> {
     ghost Value = { CallPart };
 
     ghost view = { λ c. record {
-      depth = c.depth;
+      depth = c.depth.value;
       offset = R.Offset.count c.offset.0;
-      ranges = c.ranges.items;
+      ranges = c.ranges.value.items;
       name = option_map R.view c.name;
       file = c.file;
       line = c.line;
@@ -51,25 +55,11 @@ impl<R: Reader> Model for Call<R> {
 }
 
 impl<R: Reader> Call<R> {
-    /// How many other calls it is in.
-    pub fn depth(&self) -> usize
-        ensures { result ≡ self.now.depth }
-    {
-        self.depth
-    }
-
     /// The offset of its entry in the unit.
     pub fn offset(&self) -> UnitOffset<R::Offset>
         ensures { R.Offset.count result.0 ≡ self.now.offset }
     {
         self.offset
-    }
-
-    /// Its ranges, in order of appearance.
-    pub fn ranges(&self) -> &[Range]
-        ensures { result.now ≡ self.now.ranges }
-    {
-        self.ranges.as_slice()
     }
 
     /// The name of the function that is called.
@@ -105,12 +95,4 @@ impl<R: Reader> HasRanges for Call<R> {
     ghost depth = { depth_of_call };
 
     ghost ranges = { ranges_of_call };
-
-    fn range_depth(&self) -> usize {
-        self.depth
-    }
-
-    fn range_list(&self) -> &[Range] {
-        self.ranges.as_slice()
-    }
 }

@@ -9,7 +9,7 @@ ghost use Rattle.addr2line_functions.specs.CountedFunctions.{chain_probes};
 
 use crate::call::Call;
 use crate::naming::{Names, name_by};
-use crate::numbered_range::{NumberedRange, number_at, range_index};
+use crate::numbered_range::{NumberedRange, RangedItems, number_at};
 use crate::walk::calls_below;
 use addr2line_ranges::{Probes, RangeIndex, UnitRef};
 use gimli_units_entries::{
@@ -22,6 +22,7 @@ use std::marker::Model;
 /// each is in. A bisection of the calls' ranges finds the call of a depth that holds an address.
 pub struct FunctionCalls<R: Reader> {
     name: Option<R>,
+    // By their numbers, without their depths and ranges.
     calls: Vec<Call<R>>,
     ranges: RangeIndex<NumberedRange>,
 }
@@ -55,22 +56,17 @@ impl<R: Reader> Model for FunctionCalls<R> {
 
 impl<R: Reader> FunctionCalls<R> {
     // With the calls' ranges in order.
-    fn new(
-        alloc: Global,
-        name: Option<R>,
-        calls: Vec<Call<R>>,
-        probes: &Probes,
-    ) -> Result<Self, Error>
+    fn new(name: Option<R>, calls: RangedItems<Call<R>>, probes: &Probes) -> Result<Self, Error>
         ensures { ReturnsOrNoMemory result (Ok (record {
-          function = record { name = option_map R.view name; calls = calls.items };
+          function = record { name = option_map R.view name; calls = calls };
           counter = probes.now.name;
         })) }
     {
-        let ranges = range_index(alloc, calls.as_slice(), probes)?;
+        let RangedItems { items, ranges } = calls;
         Ok(FunctionCalls {
             name,
-            calls,
-            ranges,
+            calls: items,
+            ranges: RangeIndex::new(ranges, probes)?,
         })
     }
 
@@ -135,7 +131,7 @@ fn function_calls<R: Reader, N: Names<R>>(
     let _ = &unit.dwarf;
     let name = name_by(names, entry.attrs())?;
     let calls = calls_below(alloc, unit, names, entries)?;
-    FunctionCalls::new(alloc, name, calls, probes)
+    FunctionCalls::new(name, calls, probes)
 }
 
 /// The function whose entry is at an offset of a unit, with the calls that are inlined into it. Of

@@ -7,12 +7,15 @@ ghost use Rattle.addr2line_functions.specs.CountedFunctions.{no_depth};
 use crate::numbered_range::HasRanges;
 use gimli_units_entries::{Range, ReaderOffset, UnitOffset};
 use std::marker::Model;
+use std::snapshot::Snapshot;
 
-/// A function of a unit that has a range: the offset of its entry, and its ranges (DWARF 5, 3.3).
+/// A function of a unit that has a range: the offset of its entry (DWARF 5, 3.3). Contracts see its
+/// ranges too.
 #[derive(Drop)]
 pub struct Function<O: ReaderOffset> {
     pub(crate) offset: UnitOffset<O>,
-    pub(crate) ranges: Vec<Range>,
+    // In order of appearance. It takes no bytes: `Functions` has the ranges of all.
+    pub(crate) ranges: Snapshot<Vec<Range>>,
 }
 
 impl<O: ReaderOffset> Model for Function<O> {
@@ -20,7 +23,7 @@ impl<O: ReaderOffset> Model for Function<O> {
 
     ghost Value = { FunctionPart };
 
-    ghost view = { λ f. record { offset = O.count f.offset.0; ranges = f.ranges.items } };
+    ghost view = { λ f. record { offset = O.count f.offset.0; ranges = f.ranges.value.items } };
 }
 
 impl<O: ReaderOffset> Function<O> {
@@ -30,25 +33,10 @@ impl<O: ReaderOffset> Function<O> {
     {
         self.offset
     }
-
-    /// Its ranges, in order of appearance.
-    pub fn ranges(&self) -> &[Range]
-        ensures { result.now ≡ self.now.ranges }
-    {
-        self.ranges.as_slice()
-    }
 }
 
 impl<O: ReaderOffset> HasRanges for Function<O> {
     ghost depth = { no_depth };
 
     ghost ranges = { ranges_of_function };
-
-    fn range_depth(&self) -> usize {
-        0
-    }
-
-    fn range_list(&self) -> &[Range] {
-        self.ranges.as_slice()
-    }
 }

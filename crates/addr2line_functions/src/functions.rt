@@ -1,7 +1,10 @@
 //! The functions of a unit.
 
-ghost use Rattle.std.specs.Prelude.{◌≡◌, ◌==◌, ◌≤◌, [], not, Ok, IfOk};
-ghost use Rattle.gimli_units_entries.specs.Calls.{ReturnsAsOrNoMemory, ReturnsOrNoMemory};
+ghost use Rattle.std.specs.Prelude.{◌≡◌, ◌==◌, ◌≤◌, [], ◌∷◌, not, Ok, IfOk};
+ghost use Rattle.gimli_units_entries.specs.Calls.{ReturnsAsOrNoMemory, ReturnsOrNoMemory, StepsAsOrNoMemory};
+ghost use Rattle.gimli_units_entries.specs.EntryViews.{raw_attributes};
+ghost use Rattle.gimli_units_entries.specs.NamedAttributes.{named_values};
+ghost use Rattle.gimli_units_entries.specs.TheConstants.{DW_AT_low_pc, DW_AT_high_pc, DW_AT_ranges};
 ghost use Rattle.gimli_units_entries.specs.View.{bytes_left};
 ghost use Rattle.addr2line_names.specs.UnitFacts.{UnitInFile};
 ghost use Rattle.addr2line_ranges.specs.Functions.{functions_of_unit, function_number};
@@ -10,19 +13,21 @@ ghost use Rattle.addr2line_functions.specs.CountedFunctions.{function_probes};
 ghost use Rattle.addr2line_functions.specs.NextFunctions.{if_has_range, next_function, functions_from};
 
 use crate::function::Function;
-use crate::numbered_range::{NumberedRange, number_at, range_index};
-use addr2line_names::{DW_AT_high_pc, DW_AT_ranges};
-use addr2line_ranges::{Probes, RangeIndex, UnitRef, push_if_any, ranges_of_entry};
+use crate::numbered_range::{NumberedRange, RangedItem, RangedItems, number_at};
+use addr2line_names::{Abbreviation, DW_AT_high_pc, DW_AT_ranges};
+use addr2line_ranges::{Probes, RangeIndex, UnitRef, ranges_of_entry};
 use gimli_units_entries::{
     Attribute, DW_AT_low_pc, DW_TAG_subprogram, EntriesRaw, Error, Range, Reader, ReaderOffset,
     UnitOffset,
 };
 use std::alloc::Global;
 use std::marker::Model;
+use std::snapshot::Snapshot;
 
 /// The functions of a unit that have a range, in order of appearance. One bisection of their ranges
 /// finds the function of an address.
 pub struct Functions<O: ReaderOffset> {
+    // By their numbers, without their ranges.
     functions: Vec<Function<O>>,
     ranges: RangeIndex<NumberedRange>,
 }
@@ -52,12 +57,15 @@ impl<O: ReaderOffset> Model for Functions<O> {
 
 impl<O: ReaderOffset> Functions<O> {
     // With their ranges in order.
-    fn new(alloc: Global, functions: Vec<Function<O>>, probes: &Probes) -> Result<Self, Error>
+    fn new(functions: RangedItems<Function<O>>, probes: &Probes) -> Result<Self, Error>
         ensures { ReturnsOrNoMemory result
-            (Ok (record { functions = functions.items; counter = probes.now.name })) }
+            (Ok (record { functions = functions; counter = probes.now.name })) }
     {
-        let ranges = range_index(alloc, functions.as_slice(), probes)?;
-        Ok(Functions { functions, ranges })
+        let RangedItems { items, ranges } = functions;
+        Ok(Functions {
+            functions: items,
+            ranges: RangeIndex::new(ranges, probes)?,
+        })
     }
 
     /// The functions. A function's number is its index among them.
@@ -80,24 +88,55 @@ impl<O: ReaderOffset> Functions<O> {
 }
 
 // A function, if it has a range.
-fn if_has_range<O: ReaderOffset>(offset: UnitOffset<O>, ranges: Vec<Range>) -> Option<Function<O>>
+fn if_has_range<O: ReaderOffset>(
+    offset: UnitOffset<O>,
+    ranges: Vec<Range>,
+) -> Option<RangedItem<Function<O>>>
     ensures { result ≡ if_has_range (record { offset = O.count offset.0; ranges = ranges.items }) }
 {
     if ranges.is_empty() {
-        None
+        return None;
+    }
+    let item = Function {
+        offset,
+        ranges: Snapshot::of(&ranges),
+    };
+    Some(RangedItem {
+        item,
+        depth: 0,
+        ranges,
+    })
+}
+
+// Reads a function's attributes, and puts those that ranges come from (DWARF 5, 2.17) into a list, in
+// place of its contents. Where its declaration has none of these, no name is compared.
+fn read_range_attributes<R: Reader>(
+    entries: &mut EntriesRaw<'_, R>,
+    abbreviation: &Abbreviation<'_>,
+    attributes: &mut Vec<Attribute<R>>,
+) -> Result<(), Error>
+    ensures { StepsAsOrNoMemory
+        (λ _. raw_attributes R.view R.Offset.count attributes.new.items) result entries.old
+        entries.new (named_values R.Offset.limit
+        (DW_AT_low_pc ∷ DW_AT_high_pc ∷ DW_AT_ranges ∷ []) abbreviation.now.attributes) }
+{
+    let specifications = abbreviation.attributes();
+    if abbreviation.has_ranges() {
+        let names = [DW_AT_low_pc, DW_AT_high_pc, DW_AT_ranges];
+        entries.read_named_attributes(specifications, &names, attributes)
     } else {
-        Some(Function { offset, ranges })
+        entries.read_named_attributes(specifications, &[], attributes)
     }
 }
 
 // The function of the next entry, if it is a function that has a range. Of a function's attributes
-// those are kept that ranges come from (DWARF 5, 2.17), in a list whose memory is used again.
+// those are kept that ranges come from, in a list whose memory is used again.
 fn next_function<R: Reader>(
     alloc: Global,
     unit: &UnitRef<'_, R>,
     entries: &mut EntriesRaw<'_, R>,
     attributes: &mut Vec<Attribute<R>>,
-) -> Result<Option<Function<R::Offset>>, Error>
+) -> Result<Option<RangedItem<Function<R::Offset>>>, Error>
     ensures { ReturnsAsOrNoMemory (λ f. (f, entries.new)) result
         (next_function R.Offset.limit unit.now entries.old) }
 {
@@ -109,11 +148,7 @@ fn next_function<R: Reader>(
         entries.skip_entry(&abbreviation)?;
         return Ok(None);
     }
-    entries.read_named_attributes(
-        abbreviation.attributes(),
-        &[DW_AT_low_pc, DW_AT_high_pc, DW_AT_ranges],
-        attributes,
-    )?;
+    read_range_attributes(entries, &abbreviation, attributes)?;
     let ranges = ranges_of_entry(alloc, unit, attributes)?;
     Ok(if_has_range(offset, ranges))
 }
@@ -134,15 +169,15 @@ fn find_function<R: Reader>(entries: &mut EntriesRaw<'_, R>) -> bool
 fn read_functions<R: Reader>(
     alloc: Global,
     unit: &UnitRef<'_, R>,
-) -> Result<Vec<Function<R::Offset>>, Error>
-    ensures { ReturnsAsOrNoMemory (λ v. v.items) result (functions_of_unit unit.now) }
+) -> Result<RangedItems<Function<R::Offset>>, Error>
+    ensures { ReturnsOrNoMemory result (functions_of_unit unit.now) }
 {
     let mut entries = unit.entries_raw(None)?;
     let mut attributes = Vec::new(alloc);
-    let mut functions = Vec::new(alloc);
+    let mut functions = RangedItems::new(alloc);
     while find_function(&mut entries) {
         let next = next_function(alloc, unit, &mut entries, &mut attributes)?;
-        push_if_any(&mut functions, next)?;
+        functions = functions.with(next)?;
     }
     Ok(functions)
 }
@@ -161,5 +196,5 @@ pub fn functions_of_unit<R: Reader>(
     ensures counter { IfOk result (λ f. f.counter ≡ probes.now.name) }
 {
     let functions = read_functions(alloc, unit)?;
-    Functions::new(alloc, functions, probes)
+    Functions::new(functions, probes)
 }

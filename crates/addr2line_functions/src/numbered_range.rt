@@ -1,15 +1,17 @@
 //! Ranges of functions or of calls, of which one bisection finds the one that holds an address.
 
-ghost use Rattle.std.specs.Prelude.{◌≡◌, ◌++◌, ℕ, List, length, Ok};
-ghost use Rattle.gimli_units_entries.specs.Calls.{ReturnsAsOrNoMemory, ReturnsOrNoMemory};
+ghost use Rattle.std.specs.Prelude.{◌≡◌, ◌++◌, ℕ, List, [], length, option_to_list, Ok, IfOk, IfErr};
+ghost use Rattle.gimli_units_entries.specs.Calls.{ReturnsAsOrNoMemory};
+ghost use Rattle.gimli_units_entries.specs.Error.TheVariants.{Memory};
 ghost use Rattle.gimli_units_entries.specs.Range.{Range as RangePart};
 ghost use Rattle.addr2line_ranges.specs.Searches.{AtMostProbes};
-ghost use Rattle.addr2line_functions.specs.RangesByNumber.{depth_of, range_of, of_number, numbered_ranges, number_at};
+ghost use Rattle.addr2line_functions.specs.RangesByNumber.{depth_of, range_of, of_number, number_at};
 ghost use Rattle.addr2line_functions.specs.CountedFunctions.{search_probes};
 
 use addr2line_ranges::{Probes, RangeIndex, Ranged};
 use gimli_units_entries::{Error, Range};
 use std::alloc::Global;
+use std::marker::Model;
 
 /// A range of addresses, with the depth and the number of the function or the call that has it.
 #[derive(Clone, Copy, Debug, PartialEq, Eq)]
@@ -33,19 +35,83 @@ impl Ranged for NumberedRange {
     }
 }
 
-// What has ranges, all at one depth.
+// What has ranges, all at one depth. It doesn't keep them: they are searched with those of others.
 pub(crate) trait HasRanges {
     ghost depth: { Self → ℕ };
 
     ghost ranges: { Self → List RangePart };
+}
 
-    /// The depth.
-    fn range_depth(&self) -> usize
-        ensures { result ≡ depth self.now };
+// An item as it was read, with its depth and its ranges.
+#[derive(Drop)]
+pub(crate) struct RangedItem<T: HasRanges> {
+    pub(crate) item: T,
+    pub(crate) depth: usize,
+    pub(crate) ranges: Vec<Range>,
+}
 
-    /// The ranges, in order of appearance.
-    fn range_list(&self) -> &[Range]
-        ensures { result.now ≡ ranges self.now };
+impl<T: HasRanges> Model for RangedItem<T> {
+    ghost use Rattle.std.specs.Prelude.{◌≡◌};
+
+    ghost Value = { T };
+
+    ghost view = { λ r. r.item };
+
+    ghost invariant = { λ r.
+        (r.depth ≡ T.depth r.item) × (r.ranges.items ≡ T.ranges r.item) };
+}
+
+// Items in order of appearance, and the ranges of all with their items' depths and numbers.
+#[derive(Drop)]
+pub(crate) struct RangedItems<T: HasRanges> {
+    pub(crate) items: Vec<T>,
+    pub(crate) ranges: Vec<NumberedRange>,
+}
+
+impl<T: HasRanges> Model for RangedItems<T> {
+    ghost use Rattle.std.specs.Prelude.{◌≡◌, List};
+    ghost use Rattle.addr2line_functions.specs.RangesByNumber.{numbered_ranges};
+
+    ghost Value = { List T };
+
+    ghost view = { λ r. r.items.items };
+
+    ghost invariant = { λ r.
+        r.ranges.items ≡ numbered_ranges T.depth T.ranges r.items.items };
+}
+
+impl<T: HasRanges + Drop> RangedItems<T> {
+    // No items.
+    pub(crate) fn new(alloc: Global) -> Self
+        ensures { result ≡ [] }
+    {
+        RangedItems {
+            items: Vec::new(alloc),
+            ranges: Vec::new(alloc),
+        }
+    }
+
+    // With one more, if there is one.
+    pub(crate) fn with(self, next: Option<RangedItem<T>>) -> Result<Self, Error>
+        ensures ok { IfOk result (λ all. all ≡ self ++ option_to_list next) }
+        ensures refusal { IfErr result (λ e. e ≡ Memory) }
+    {
+        let Some(ranged) = next else {
+            return Ok(self);
+        };
+        let RangedItem {
+            item,
+            depth,
+            ranges,
+        } = ranged;
+        let RangedItems {
+            mut items,
+            ranges: mut all,
+        } = self;
+        push_ranges(&mut all, depth, items.len(), ranges.as_slice())?;
+        items.push(item)?;
+        Ok(RangedItems { items, ranges: all })
+    }
 }
 
 // Appends ranges of a depth and a number.
@@ -66,34 +132,6 @@ fn push_ranges(
         })?;
     }
     Ok(())
-}
-
-// The ranges of items, with the items' numbers.
-fn numbered_ranges<T: HasRanges>(alloc: Global, items: &[T]) -> Result<Vec<NumberedRange>, Error>
-    ensures { ReturnsAsOrNoMemory (λ v. v.items) result
-        (Ok (numbered_ranges T.depth T.ranges items.now)) }
-{
-    let mut all = Vec::new(alloc);
-    for (number, item) in items.iter().enumerate() {
-        push_ranges(&mut all, item.range_depth(), number, item.range_list())?;
-    }
-    Ok(all)
-}
-
-// The ranges of items, sorted by depth, begin, end and appearance. This counter counts looks at
-// them.
-pub(crate) fn range_index<T: HasRanges>(
-    alloc: Global,
-    items: &[T],
-    probes: &Probes,
-) -> Result<RangeIndex<NumberedRange>, Error>
-    ensures { ReturnsOrNoMemory result (Ok (record {
-      entries = numbered_ranges T.depth T.ranges items.now;
-      counter = probes.now.name;
-    })) }
-{
-    let ranges = numbered_ranges(alloc, items)?;
-    RangeIndex::new(ranges, probes)
 }
 
 // The number of the item that holds an address, among those of a depth.

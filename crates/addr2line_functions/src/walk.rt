@@ -10,13 +10,15 @@ use crate::call::Call;
 use crate::call_facts::{CallFacts, call_facts};
 use crate::naming::Names;
 use crate::nesting::Nesting;
+use crate::numbered_range::{RangedItem, RangedItems};
 use crate::place::{call_file, number_or_0};
 use crate::{EntryRow, next_row};
-use addr2line_ranges::{UnitRef, entry_ranges, push_if_any};
+use addr2line_ranges::{UnitRef, entry_ranges};
 use gimli_units_entries::{
     Attribute, DW_AT_call_column, DW_AT_call_line, EntriesRaw, Error, Reader,
 };
 use std::alloc::Global;
+use std::snapshot::Snapshot;
 
 // The call of an entry with these attributes, which is in a number of others.
 fn call_at<R: Reader, N: Names<R>>(
@@ -26,7 +28,7 @@ fn call_at<R: Reader, N: Names<R>>(
     depth: usize,
     row: EntryRow<R::Offset>,
     attributes: &[Attribute<R>],
-) -> Result<Call<R>, Error>
+) -> Result<RangedItem<Call<R>>, Error>
     ensures { ReturnsOrNoMemory result
         (call_at unit.now (N.naming names.now) depth
         (row_view R.view R.Offset.count row attributes.now)) }
@@ -38,14 +40,19 @@ fn call_at<R: Reader, N: Names<R>>(
     } = found;
     let ranges = entry_ranges(alloc, unit, &facts)?;
     let unit = unit.unit;
-    Ok(Call {
-        depth,
+    let item = Call {
+        depth: Snapshot::of(&depth),
         offset: row.offset,
-        ranges,
+        ranges: Snapshot::of(&ranges),
         name,
         file: call_file(attributes, unit.header.version()),
         line: number_or_0(attributes, DW_AT_call_line),
         column: number_or_0(attributes, DW_AT_call_column),
+    };
+    Ok(RangedItem {
+        item,
+        depth,
+        ranges,
     })
 }
 
@@ -57,7 +64,7 @@ fn call_if<R: Reader, N: Names<R>>(
     depth: Option<usize>,
     row: EntryRow<R::Offset>,
     attributes: &[Attribute<R>],
-) -> Result<Option<Call<R>>, Error>
+) -> Result<Option<RangedItem<Call<R>>>, Error>
     ensures { ReturnsOrNoMemory result
         (call_if unit.now (N.naming names.now)
         (row_view R.view R.Offset.count row attributes.now) depth) }
@@ -76,7 +83,7 @@ fn next_call<R: Reader, N: Names<R>>(
     entries: &mut EntriesRaw<'_, R>,
     nesting: &mut Nesting,
     attributes: &mut Vec<Attribute<R>>,
-) -> Result<Option<Call<R>>, Error>
+) -> Result<Option<RangedItem<Call<R>>>, Error>
     ensures { ReturnsAsOrNoMemory
         (λ c. (c, record { walk = entries.new; nesting = nesting.new })) result
         (next_call R.Offset.limit unit.now (N.naming names.now)
@@ -106,14 +113,14 @@ pub(crate) fn calls_below<R: Reader, N: Names<R>>(
     unit: &UnitRef<'_, R>,
     names: &N,
     mut entries: EntriesRaw<'_, R>,
-) -> Result<Vec<Call<R>>, Error>
-    ensures { ReturnsAsOrNoMemory (λ v. v.items) result
+) -> Result<RangedItems<Call<R>>, Error>
+    ensures { ReturnsOrNoMemory result
         (calls_among unit.now (N.naming names.now)
         (entries_of R.Offset.limit entries.entry)) }
 {
     let mut nesting = Nesting::new(alloc);
     let mut attributes = Vec::new(alloc);
-    let mut calls = Vec::new(alloc);
+    let mut calls = RangedItems::new(alloc);
     while find_call(&mut entries, &mut nesting) {
         let next = next_call(
             alloc,
@@ -123,7 +130,7 @@ pub(crate) fn calls_below<R: Reader, N: Names<R>>(
             &mut nesting,
             &mut attributes,
         )?;
-        push_if_any(&mut calls, next)?;
+        calls = calls.with(next)?;
     }
     Ok(calls)
 }

@@ -1,3 +1,4 @@
+pub use Rattle.gimli_core_abbrev.specs.DeclarationFacts
 pub use Rattle.gimli_dwarf.specs.UnitFacts
 pub mod EntryReferences
 pub mod OrderedUnits

@@ -14,6 +14,6 @@ mod references;
 
 pub use attributes::is_naming;
 pub use file::DebugFile;
-pub use gimli_core_abbrev::{DW_AT_high_pc, DW_AT_ranges};
+pub use gimli_core_abbrev::{Abbreviation, DW_AT_high_pc, DW_AT_ranges};
 pub use holder::{HasUnit, HoldingUnit};
 pub use names::KnownUnits;

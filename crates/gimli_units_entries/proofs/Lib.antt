@@ -16,4 +16,4 @@ mod AttributePushLemmas
 mod EntryReads
 pub mod OtherEntryLemmas
 mod SureWidthLemmas
-mod NamedAttributeLemmas
+pub mod NamedAttributeLemmas

@@ -1,6 +1,7 @@
 -- The attributes of some names: how they go on by one that is read, or skipped.
 use Rattle.std.proofs.Common.{◌≡◌, ℕ, ◌+◌, ◌-◌, ◌^◌, ◌<◌, ◌≤◌, Bool, true, false, cond, List, [], ◌∷◌, ◌++◌, length, map, get_or, take, drop, Result, Ok, Err, refl, sym, ap, ◌∙◌, arith, length-drop, append_assoc, append-nil}
-use Rattle.std.specs.Prelude.{All}
+use Rattle.std.specs.Prelude.{All, ◌||◌}
+use Rattle.std.specs.List.{list_any}
 use Rattle.std.proofs.lemmas.List.{at_drop_more, take_all, take-append-le, take-map, length-append, length-map}
 use Rattle.std.proofs.lemmas.List.Elements.{All-drop, filter-append}
 use Rattle.gimli_core_base.specs.declared.error.Error.{Error}
@@ -292,3 +293,34 @@ pub named_values-fault : (limit : ℕ) (names : List DwAt) (w w' : Walk) (ss : L
     → named_attributes limit names w.encoding ss w.rest ≡ Err d → named_values limit names ss w' ≡ Err d
 named_values-fault limit names w w' ss d same h =
     ap (named_values limit names ss) (sym same) ∙ named_values-is limit names ss w ∙ ap (read_in_walk w) h
+
+-- ---- declarations of which none has one of the names
+
+neither : (x y : Bool) → (x || y) ≡ false → (x ≡ false) × (y ≡ false)
+neither true y none = absurd cc
+neither false y none = (refl, none)
+
+named_attributes-no_name : (limit : ℕ) (names : List DwAt) (e : Encoding) (ss : List Attribute) (v : View)
+    → list_any (λ s. is_name_of names s.name) ss ≡ false
+    → named_attributes limit names e ss v ≡ named_attributes limit [] e ss v
+named_attributes-no_name limit names e [] v none = named-none limit names e v ∙ sym (named-none limit [] e v)
+named_attributes-no_name limit names e (s ∷ ss) v none =
+    by_first (attribute limit e s v) refl (neither _ _ none).0
+    (λ w. named_attributes-no_name limit names e ss w (neither _ _ none).1)
+  where
+    by_first : (r : Result (RawAttribute × View) Error) → attribute limit e s v ≡ r → is_name_of names s.name ≡ false
+        → ((w : View) → named_attributes limit names e ss w ≡ named_attributes limit [] e ss w)
+        → named_attributes limit names e (s ∷ ss) v ≡ named_attributes limit [] e (s ∷ ss) v
+    by_first (Ok r) h other again =
+        named-other limit names e s ss v r.1 r.0 h other ∙ again r.1
+        ∙ sym (named-other limit [] e s ss v r.1 r.0 h refl)
+    by_first (Err d) h other again = named-fault limit names e s ss v d h ∙ sym (named-fault limit [] e s ss v d h)
+
+-- then it is the same as by no names
+pub named_values-no_name : (limit : ℕ) (names : List DwAt) (ss : List Attribute) (w : Walk)
+    → list_any (λ s. is_name_of names s.name) ss ≡ false
+    → named_values limit names ss w ≡ named_values limit [] ss w
+named_values-no_name limit names ss w none =
+    named_values-is limit names ss w
+    ∙ ap (read_in_walk w) (named_attributes-no_name limit names w.encoding ss w.rest none)
+    ∙ sym (named_values-is limit [] ss w)

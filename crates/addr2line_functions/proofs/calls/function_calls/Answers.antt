@@ -34,7 +34,7 @@ returns-clause-function g c =
     let limit = ap (λ (u : UnitInFile). u.file.offset_limit) (sym c.unit.view_is) ∙ c.unit.invariant in
     returns_seen (λ (f : CountedCalls). f.function) _ _ _ c.new.ensures
     (calls_read g.R.Offset.ReaderOffset.limit c.args.unit.now limit
-    (g.N.Names.naming c.args.names.now) r c.args.entries attributes _ c.in_ok-calls.calls.items
+    (g.N.Names.naming c.args.names.now) r c.args.entries attributes _ c.in_ok-calls.calls
     c.attrs.ensures c.in_ok-name.ensures c.in_ok-calls.ensures)
 
 pub returns-clause-counter : goal.returns-clause-counter

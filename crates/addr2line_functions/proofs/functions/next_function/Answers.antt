@@ -4,7 +4,7 @@ use Rattle.gimli_units_entries.proofs.RefusedCalls.{returns_refused}
 use Rattle.gimli_units_entries.specs.EntryViews.{raw_attributes}
 use Rattle.addr2line_ranges.specs.EntryRanges.{ranges_of_entry}
 use Rattle.addr2line_ranges.specs.Functions.{is_subprogram}
-use Rattle.addr2line_functions.proofs.NextFunctionSteps.{range_values, code_refused, null_entry, other_skipped, other_refused, attributes_refused, ranges_refused, function_read}
+use Rattle.addr2line_functions.proofs.NextFunctionSteps.{code_refused, null_entry, other_skipped, other_refused, attributes_refused, ranges_refused, function_read}
 use Rattle.addr2line_functions.proofs.functions.next_function.Goals as goal
 
 pub returns-in_err-abbreviation : goal.returns-in_err-abbreviation
@@ -33,17 +33,15 @@ returns-then-ne g c =
     other_skipped g.R.Offset.ReaderOffset.limit c.args.unit.now c.args.entries.now _ _ d c.in_ok-abbreviation.ensures
     c.in-Some.is other _ c.in_ok-skip_entry.ensures
 
-pub returns-in_err-read_named_attributes : goal.returns-in_err-read_named_attributes
-returns-in_err-read_named_attributes g c =
+pub returns-in_err-read_range_attributes : goal.returns-in_err-read_range_attributes
+returns-in_err-read_range_attributes g c =
     let limit = g.R.Offset.ReaderOffset.limit in
     let d = c.in-Some.abbreviation in
     let is : is_subprogram d.tag ≡ true = grind (arith, nat_tests, c.ne.ensures, c.tag.ensures, c.if-ne.false) in
-    returns_refused _ c.from_residual-in_err-read_named_attributes.result _ _
-    c.from_residual-in_err-read_named_attributes.ensures.1
+    returns_refused _ c.from_residual-in_err-read_range_attributes.result _ _
+    c.from_residual-in_err-read_range_attributes.ensures.1
     (λ ne. attributes_refused limit c.args.unit.now c.args.entries.now _ _ d c.in_ok-abbreviation.ensures
-    c.in-Some.is is _
-    (ap (λ ss. range_values limit ss c.read_abbreviation.new.self) (sym c.attributes.ensures)
-    ∙ c.in_err-read_named_attributes.ensures.value.0 ne))
+    c.in-Some.is is _ (c.in_err-read_range_attributes.ensures.0 ne))
 
 pub returns-in_err-ranges : goal.returns-in_err-ranges
 returns-in_err-ranges g c =
@@ -53,8 +51,7 @@ returns-in_err-ranges g c =
     returns_refused _ c.from_residual-in_err-ranges.result _ _ c.from_residual-in_err-ranges.ensures.1
     (λ ne. ranges_refused limit c.args.unit.now c.args.entries.now _ _ d c.in_ok-abbreviation.ensures c.in-Some.is is
     _ _ _
-    (ap (λ ss. range_values limit ss c.read_abbreviation.new.self) (sym c.attributes.ensures)
-    ∙ c.in_ok-read_named_attributes.ensures.value)
+    c.in_ok-read_range_attributes.ensures
     (ap (λ xs. ranges_of_entry c.args.unit.now (raw_attributes g.R.Reader.view g.R.Offset.ReaderOffset.count xs))
     (sym c.deref.ensures.value) ∙ c.in_err-ranges.ensures ne))
 
@@ -65,8 +62,7 @@ returns g c =
     let is : is_subprogram d.tag ≡ true = grind (arith, nat_tests, c.ne.ensures, c.tag.ensures, c.if-ne.false) in
     function_read limit c.args.unit.now c.args.entries.now _ _ d c.in_ok-abbreviation.ensures c.in-Some.is is _ _
     c.in_ok-ranges.ranges.items _ c.if_has_range.result
-    (ap (λ ss. range_values limit ss c.read_abbreviation.new.self) (sym c.attributes.ensures)
-    ∙ c.in_ok-read_named_attributes.ensures.value)
+    c.in_ok-read_range_attributes.ensures
     (ap (λ xs. ranges_of_entry c.args.unit.now (raw_attributes g.R.Reader.view g.R.Offset.ReaderOffset.count xs))
     (sym c.deref.ensures.value) ∙ c.in_ok-ranges.ensures)
     c.next_offset-offset.ensures.value c.if_has_range.ensures

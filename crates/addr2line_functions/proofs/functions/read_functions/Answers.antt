@@ -7,15 +7,15 @@ use Rattle.addr2line_functions.proofs.functions.read_functions.Goals as goal
 
 pub loop-alloc-init : goal.loop-alloc-init
 loop-alloc-init g c =
-    functions-start g.R.Offset.ReaderOffset.limit c.args.unit.now c.new-functions.result.items
+    functions-start g.R.Offset.ReaderOffset.limit c.args.unit.now c.new-functions.result
     c.in_ok-entries.entries c.in_ok-entries.ensures.limit
-    c.new-functions.ensures.items c.in_ok-entries.ensures.value
+    c.new-functions.ensures c.in_ok-entries.ensures.value
 
 pub returns-in_err-next : goal.returns-in_err-next
 returns-in_err-next g c =
     let p = err_from_is_err_and c.from_residual-in_err-next.result c.from_residual-in_err-next.ensures.1 in
     let w = c.find_function.new.entries in
-    let found = c.loop-alloc.functions.items in
+    let found = c.loop-alloc.functions in
     rw (p.1, p.2)
     (λ m. sym c.loop-alloc.invariant
     ∙ ap (functions_then found) (sym (c.find_function.ensures.functions c.args.unit.now))
@@ -34,10 +34,10 @@ pub loop-alloc-preserved : goal.loop-alloc-preserved
 loop-alloc-preserved g c =
     let limit = g.R.Offset.ReaderOffset.limit in
     let u = c.args.unit.now in
-    let found = c.loop-alloc.functions.items in
+    let found = c.loop-alloc.functions in
     let next = c.in_ok-next.next in
     ap (λ l. functions_then l (functions_from limit u c.next_function.new.entries))
-    c.in_ok-push_if_any.ensures.ok
+    c.in_ok-functions.ensures.ok
     ∙ functions-more limit u found c.find_function.new.entries c.next_function.new.entries next c.in_ok-next.ensures
     ∙ ap (functions_then found) (c.find_function.ensures.functions u)
     ∙ c.loop-alloc.invariant
@@ -45,7 +45,7 @@ loop-alloc-preserved g c =
 pub returns : goal.returns
 returns g c =
     let w = c.find_function.new.entries in
-    let found = c.loop-alloc.functions.items in
+    let found = c.loop-alloc.functions in
     sym c.loop-alloc.invariant
     ∙ ap (functions_then found) (sym (c.find_function.ensures.functions c.args.unit.now))
     ∙ functions-end g.R.Offset.ReaderOffset.limit c.args.unit.now found w

@@ -9,7 +9,7 @@ use Rattle.addr2line_functions.proofs.functions.read_functions.Given as goal
 abbrev pub invariant-loop-alloc : goal.invariant-loop-alloc
 invariant-loop-alloc g l =
     let limit = g.R.Offset.ReaderOffset.limit in
-    functions_then l.functions.items (functions_from limit l.unit l.entries)
+    functions_then l.functions (functions_from limit l.unit l.entries)
     ≡ functions_of_unit l.unit
 
 abbrev pub decreases-loop-alloc : goal.decreases-loop-alloc

@@ -33,8 +33,9 @@ returns g c =
     let version =
     c.version.ensures ∙ ap (λ f. f.header.encoding.version) c.unit-2.view_is
     ∙ ap (λ u. u.facts.header.encoding.version) c.unit.view_is in
-    call_read c.args.unit.now (g.N.Names.naming c.args.names.now) c.args.depth r
+    rw (c.of.ensures, c.of-2.ensures)
+    (call_read c.args.unit.now (g.N.Names.naming c.args.names.now) c.args.depth r
     (record { name = option_map g.R.Reader.view c.found.inside.name; ranges = c.found.inside.ranges })
     c.in_ok-ranges.ranges.items c.call_file.result c.number_or_0.result c.number_or_0-2.result
     (c.in_ok-found.ensures ∙ ap ok_facts (sym c.found.view_is)) c.in_ok-ranges.ensures
-    (c.call_file.ensures ∙ ap (λ v. call_file v attributes) version) c.number_or_0.ensures c.number_or_0-2.ensures
+    (c.call_file.ensures ∙ ap (λ v. call_file v attributes) version) c.number_or_0.ensures c.number_or_0-2.ensures)

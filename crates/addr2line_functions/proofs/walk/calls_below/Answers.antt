@@ -1,4 +1,4 @@
-use Rattle.std.proofs.Common.{◌≡◌, ◌≤◌, ◌∙◌, [], ◌∷◌, pos, ◌<ℤ◌, ap, sym, subst, arith, rules}
+use Rattle.std.proofs.Common.{◌∙◌, [], ◌∷◌, pos, ◌<ℤ◌, ap, sym, arith}
 use Rattle.std.proofs.lemmas.Int.{ints}
 use Rattle.std.proofs.lemmas.Result.{err_from_is_err_and}
 use Rattle.gimli_units_entries.specs.View.{bytes_left}
@@ -16,7 +16,7 @@ loop-alloc-init g c = (
   matches_first c.args.entries.depth c.new-nesting.result c.new-nesting.ensures,
   below_first,
   calls-start g.R.Offset.ReaderOffset.limit c.args.unit.now
-      (g.N.Names.naming c.args.names.now) c.new-calls.result.items c.args.entries c.new-calls.ensures.items,
+      (g.N.Names.naming c.args.names.now) c.new-calls.result c.args.entries c.new-calls.ensures,
 )
 
 pub returns-in_err-next : goal.returns-in_err-next
@@ -26,7 +26,7 @@ returns-in_err-next g c =
     let naming = g.N.Names.naming c.args.names.now in
     let p = err_from_is_err_and c.from_residual.result c.from_residual.ensures.1 in
     let i = c.loop-alloc.invariant in
-    let found = c.loop-alloc.calls.items in
+    let found = c.loop-alloc.calls in
     let w = c.find_call.new.entries in
     let now = c.find_call.new.nesting in
     let s = calls-found limit u naming i.0 c.loop-alloc.entries w c.loop-alloc.nesting now i.2 i.1
@@ -56,7 +56,7 @@ loop-alloc-preserved g c =
     let limit = g.R.Offset.ReaderOffset.limit in
     let u = c.args.unit.now in
     let naming = g.N.Names.naming c.args.names.now in
-    let found = c.loop-alloc.calls.items in
+    let found = c.loop-alloc.calls in
     let next = c.in_ok-next.next in
     let w = c.find_call.new.entries in
     let t = c.next_call.new.entries in
@@ -70,7 +70,7 @@ loop-alloc-preserved g c =
     let e = entry_parts limit u naming w t now p next c.in_ok-next.ensures in
     let more = calls-more limit u naming found s.rows w t now p next some s.matches e in
     let at = (leads limit (is_call_where (leave w.depth now)) w t e.row e.read).at in
-    let same = c.in_ok-push_if_any.ensures.ok in (
+    let same = c.in_ok-calls.ensures.ok in (
       e.row ∷ s.rows,
       more.0,
       below_more e.row s.rows (omega (arith, ints, some, at)) s.below,
@@ -78,11 +78,11 @@ loop-alloc-preserved g c =
           ∙ more.1 ∙ ap (calls_then found) s.same ∙ i.3,
     )
 
-pub returns-in_err-push_if_any : goal.returns-in_err-push_if_any
-returns-in_err-push_if_any g c =
-    let p = err_from_is_err_and c.from_residual-in_err-push_if_any.result
-    c.from_residual-in_err-push_if_any.ensures.1 in
-    rw (p.1, p.2) (λ m. absurd (m c.in_err-push_if_any.ensures.refusal))
+pub returns-in_err-calls : goal.returns-in_err-calls
+returns-in_err-calls g c =
+    let p = err_from_is_err_and c.from_residual-in_err-calls.result
+    c.from_residual-in_err-calls.ensures.1 in
+    rw (p.1, p.2) (λ m. absurd (m c.in_err-calls.ensures.refusal))
 
 pub returns : goal.returns
 returns g c =
@@ -90,7 +90,7 @@ returns g c =
     let u = c.args.unit.now in
     let naming = g.N.Names.naming c.args.names.now in
     let i = c.loop-alloc.invariant in
-    let found = c.loop-alloc.calls.items in
+    let found = c.loop-alloc.calls in
     let w = c.find_call.new.entries in
     let s = calls-found limit u naming i.0 c.loop-alloc.entries w c.loop-alloc.nesting c.find_call.new.nesting i.2 i.1
     c.find_call.ensures.inside c.find_call.ensures.others in

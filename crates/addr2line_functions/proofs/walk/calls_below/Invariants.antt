@@ -14,7 +14,7 @@ invariant-loop-alloc g l =
     let limit = g.R.Offset.ReaderOffset.limit in
     let naming = g.N.Names.naming l.names in
     (before : List Row) × Matches before l.entries.depth l.nesting × AreBelow before
-    × (calls_then l.calls.items
+    × (calls_then l.calls
     (calls_from limit l.unit naming (record { walk = l.entries; before = before }))
     ≡ calls_among l.unit naming (entries_of limit l.fn.entries))
 
