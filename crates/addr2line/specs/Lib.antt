@@ -12,6 +12,7 @@ pub use Rattle.addr2line_context.specs.OptionalValues
 pub use Rattle.addr2line_context.specs.FileTexts
 pub use Rattle.addr2line_context.specs.UnitLines
 pub use Rattle.addr2line_context.specs.UnitRanges
+pub use Rattle.addr2line_context.specs.UnitRange
 pub use Rattle.addr2line_context.specs.BorrowedLocations
 pub use Rattle.addr2line_context.specs.Stretches
 pub use Rattle.addr2line_context.specs.UnitPlaces
@@ -111,6 +112,7 @@ pub use Rattle.addr2line_root.specs.CountedRuns
 pub use Rattle.gimli_dwarf.specs.Attributes
 pub use Rattle.gimli_dwarf.specs.CachedFiles
 pub use Rattle.gimli_dwarf.specs.ListSections
+pub use Rattle.gimli_dwarf.specs.NumberParsers
 pub use Rattle.gimli_dwarf.specs.Parsers
 pub use Rattle.gimli_dwarf.specs.Readers
 pub use Rattle.gimli_dwarf.specs.SectionLoading

@@ -11,6 +11,10 @@ pub use Rattle.gimli_dwarf_spec.specs.SectionId
 pub use Rattle.gimli_dwarf_spec.specs.TheConstants
 pub use Rattle.gimli_dwarf_spec.specs.Error
 pub use Rattle.gimli_dwarf_spec.specs.SectionReads
+pub use Rattle.gimli_dwarf_spec.specs.Addresses
+pub use Rattle.gimli_dwarf_spec.specs.NamedAttributes
+pub use Rattle.gimli_dwarf_spec.specs.Range
+pub use Rattle.gimli_dwarf_spec.specs.UnitTypes
 pub use Rattle.gimli_dwarf_spec.specs.Attributes
 pub use Rattle.gimli_dwarf_spec.specs.DwarfFiles
 pub use Rattle.gimli_dwarf_spec.specs.Splitting

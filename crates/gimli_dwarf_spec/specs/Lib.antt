@@ -13,6 +13,10 @@ pub use Rattle.gimli_units_entries.specs.SectionId
 pub use Rattle.gimli_units_entries.specs.TheConstants
 pub use Rattle.gimli_units_entries.specs.Error
 pub use Rattle.gimli_units_lists.specs.SectionReads
+pub use Rattle.gimli_units_lists.specs.Addresses
+pub use Rattle.gimli_units_entries.specs.NamedAttributes
+pub use Rattle.gimli_units_entries.specs.Range
+pub use Rattle.gimli_units_entries.specs.UnitTypes
 pub use Rattle.gimli_lines_header.specs.HeaderParsing
 pub use Rattle.gimli_lines_header.specs.LineFiles
 pub use Rattle.gimli_lines_header.specs.LineHeaders

@@ -32,9 +32,9 @@ pub fn linemap_command<'a>(alloc: Global) -> Result<Command<'a>, AllocError>
     // The same name wherever the executable is.
     let command = Command::new(alloc, "linemap").bin_name("linemap")?;
     let command = command
-        .about("Answers which source line an address belongs to")
+        .about("Says which source line an address belongs to")
         .after_help(
-            "Example: the line of an address in a program, of one in a table, and what a refusal \
+            "Examples: the line of an address in a program, of one in a table, and what a refusal \
             means\n  \
             linemap lookup -e ./a.out 0x1139\n  \
             linemap ask table.json 0x100f\n  \

@@ -7,7 +7,7 @@ pub const DEBUG_INFORMATION: [&str; 33] = [
 Usual cause: a limit on memory (ulimit -v, a container), or a very large file.
 What to do: allow more memory, and ask again. What was asked before isn't lost.
 ",
-    "E2: the bytes end before a value does. The number after it is the place where that read began.
+    "E2: the bytes end before a value does.
 Usual cause: a file that was cut short, or damaged debug information.
 What to do: copy or build the file again; readelf --debug-dump shows where its sections end.
 ",
@@ -121,7 +121,7 @@ What to do: build the file again.
 Usual cause: damaged debug information.
 What to do: build the file again.
 ",
-    "E30: a name or a directory is a value that is no text.
+    "E30: a name or a directory isn't text.
 Usual cause: damaged debug information, or a form of another vendor.
 What to do: build the file for DWARF 2 to 5 (gcc -gdwarf-5), without extensions.
 ",
@@ -189,7 +189,7 @@ pub const TABLES: [&str; 20] = [
 Usual cause: a limit on memory (ulimit -v, a container), or a very large table.
 What to do: allow more memory.
 ",
-    "B2: the text is no JSON.
+    "B2: the text isn't JSON.
 Usual cause: a comma after the last item, a comment, a file that was cut, or no UTF-8.
 What to do: try a tool that shows the place, as python3 -m json.tool TABLE.
 ",
@@ -288,9 +288,9 @@ What to do: allow more memory; sections of debug information and of symbols are 
     "L2: the file can't be read.
 Usual cause: a path that isn't there, a folder, or a file that may not be read. It may be the
 supplement (--sup).
-What to do: see by ls -l what it is.
+What to do: ls -l shows what it is.
 ",
-    "L3: the file is no ELF file.
+    "L3: the file isn't an ELF file.
 Usual cause: a script, an archive (.a), or a program for Windows or macOS.
 What to do: name the ELF file itself; of an archive, the program that it is linked into.
 ",
@@ -312,7 +312,7 @@ look into OUT.
 Usual cause: an object file (.o), or a kernel module (.ko).
 What to do: link it, and look into the result.
 ",
-    "L8: the debug information can't be read. The first unit that is damaged ends it.
+    "L8: the debug information can't be read: reading it stops at the first damaged unit.
 Usual cause: damaged debug information, a version above 5, or a file that was cut and padded.
 What to do: readelf --debug-dump=info says where it is damaged; build the file again.
 ",

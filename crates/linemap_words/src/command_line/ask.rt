@@ -9,8 +9,8 @@ use std::alloc::{AllocError, Global};
 const NOTES: &str = "Example: the source line of one address
   linemap ask table.json 0x100f
 
-A table that can't be used is refused by a number, B1 to B20, or by M2 where it is too large:
-linemap explain B10 says what one means. docs/TABLE.md says how a table is written.";
+A table that can't be used is refused with a code, B1 to B20, M1 or M2: linemap explain B10 says
+what one means. docs/TABLE.md says how a table is written.";
 
 /// `ask TABLE ADDR..`: at least one address.
 pub fn ask_command<'a>(alloc: Global) -> Result<Command<'a>, AllocError>

@@ -27,10 +27,10 @@ const NOTES: &str = "Example: write the file, and ask it for an address
   linemap emit table.json table.elf
   linemap lookup -e table.elf 0x100f
 
-Version 2 has only the format of 32 bits.
+DWARF 2 has only the 32-bit format.
 
-A table that can't be used is refused by a number, B1 to B20, or by M2 where it is too large:
-linemap explain B10 says what one means. docs/TABLE.md says how a table is written.";
+A table that can't be used is refused with a code, B1 to B20, M1 or M2: linemap explain B10 says
+what one means. docs/TABLE.md says how a table is written.";
 
 /// `emit TABLE OUT [--dwarf N] [--bits N] [--size N] [--big]`.
 pub fn emit_command<'a>(alloc: Global) -> Result<Command<'a>, AllocError>

@@ -57,7 +57,7 @@ const NOTES: &str = "Example: the functions and lines of two addresses, with inl
   linemap lookup -e ./a.out -fipC 0x1139 0x1150
 
 Without addresses, they are read from the standard input, one a line. A line that isn't UTF-8
-ends the input. llvm-symbolizer's own choice of options is -fiC --llvm.
+ends the input. llvm-symbolizer's defaults are -fiC --llvm.
 
 The program must have been compiled with debug information, as by gcc -g. Without any, each
 address is answered ??:0, with status 0: readelf -S ./a.out lists .debug_info where there is some.
@@ -67,10 +67,10 @@ An installed program has it in a file of its own, which a debug package brings:
 at .build-id/xx/rest.debug in each DIR; then, by its debug link, beside the program, in .debug
 there, and under the program's own folder in each DIR; links to the program are followed. It looks
 for the supplement of that file too, and decompresses both. If there is none, it says so.
-Where a file can't be used, one of these is printed; linemap explain L6 says more of one:
+Where a file can't be used, one of these is printed (linemap explain L6 says more):
   L1  out of memory
   L2  it can't be read
-  L3  it is no ELF file
+  L3  it isn't an ELF file
   L4  ELF files of its kind are not supported
   L5  it is cut short
   L6  its debug sections are compressed. Use --decompress, or decompress them first:
@@ -123,7 +123,7 @@ fn debug_arguments<'a>(alloc: Global) -> Result<Vec<Arg<'a>>, AllocError>
             alloc,
             DEBUG_DIR,
             "DIR",
-            "With --find-debug: a folder of debug files [default: /usr/lib/debug]"
+            "With --find-debug: a folder of debug files; may be repeated [default: /usr/lib/debug]"
         ),
     ]?;
     Ok(arguments)
@@ -158,7 +158,7 @@ fn detail_arguments<'a>(alloc: Global) -> Result<Vec<Arg<'a>>, AllocError>
     ensures { IfOk result (λ arguments. HaveRules arguments.items detail_rules) }
 {
     let arguments = vec![in alloc;
-        short_flag(alloc, FUNCTIONS, 'f', "Print the function too"),
+        short_flag(alloc, FUNCTIONS, 'f', "Also print the function"),
         short_flag(
             alloc,
             PRETTY,
@@ -169,7 +169,7 @@ fn detail_arguments<'a>(alloc: Global) -> Result<Vec<Arg<'a>>, AllocError>
             alloc,
             INLINES,
             'i',
-            "Print the functions that it is inlined into too"
+            "Also print the functions that it was inlined into"
         ),
         short_flag(alloc, ADDRESSES, 'a', "Print the address first"),
         short_flag(
