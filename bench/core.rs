@@ -177,6 +177,7 @@ fn table_checks(bytes: &[u8]) -> u64 {
     (0..bytes.len()).step_by(TABLE).map_while(|place| is_table(bytes, place)).count() as u64
 }
 
+#[inline(never)]
 fn report(name: &str, measure: impl FnOnce() -> u64) {
     let start = Instant::now();
     let sum = measure();

@@ -539,6 +539,7 @@ fn rows(section: &[u8]) -> Option<u64> {
     Some(sum)
 }
 
+#[inline(never)]
 fn report(name: &str, measure: impl FnOnce() -> Option<u64>) {
     let start = Instant::now();
     let sum = measure();

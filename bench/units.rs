@@ -467,6 +467,7 @@ fn ranges(count: usize, lists: &[u8], addresses: &[u8]) -> Option<u64> {
     Some(sum)
 }
 
+#[inline(never)]
 fn report(name: &str, measure: impl FnOnce() -> Option<u64>) {
     let start = Instant::now();
     let sum = measure();

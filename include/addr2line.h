@@ -1,5 +1,5 @@
 /* addr2line.h: which file, line and function an address of an ELF file belongs to, from its
- * debugging information (DWARF).
+ * debug information (DWARF).
  *
  *   a2l_loader loader = A2L_LOADER_INIT;
  *   a2l_location place = A2L_LOCATION_INIT;
@@ -14,18 +14,20 @@
  * Rules for all calls
  *
  * - Each returns A2L_OK or another number of those below. Nothing is written through `out`,
- *   `count`, `code` or `sentence` unless the call returns A2L_OK, but that a2l_find_frames,
+ *   `count`, `code` or `sentence` unless the call returns A2L_OK, except that a2l_find_frames,
  *   a2l_get_frames, a2l_next_ranges and a2l_find_loads set `*count` to 0 otherwise.
  * - No pointer may be NULL: with a length of 0 pass any other address, such as "". What a call
  *   writes through is memory of the caller that nothing else reads or writes during the call; a
  *   struct is initialized by its A2L_..._INIT before its first use.
  * - Texts are UTF-8 with a length, and without a NUL at their end. A text of length 0 is not NULL.
- * - What a call lends (each text) stays until the next call with the same loader, whichever it is.
- *   Copy what is needed longer.
+ * - What a call lends (each text) stays until the next call with the same loader, whichever it is,
+ *   a2l_close included. Copy what is needed longer.
  * - Addresses are those that the file is linked to run at. In a running program subtract the
  *   difference between where the file is mapped and where it is linked to run.
  * - A loader belongs to the thread that opened it: all calls with it come from there, one at a
  *   time, none from a signal handler. Loaders share nothing, so each thread can open its own.
+ *   a2l_error_text, a2l_error_code and a2l_error_sentence take no loader, and can be called from
+ *   any thread.
  * - Any bytes, addresses and numbers may be passed: a damaged file leads to a refusal, never to a
  *   crash. Out of memory is A2L_L1 where a file is opened and A2L_E1 elsewhere, and leaves the
  *   loader usable: the same call can be made again.
@@ -65,7 +67,7 @@ enum {
   /* a2l_open_with has no such flag. */
   A2L_UNKNOWN_FLAG = 8,
 
-  /* E1 to E33: why debugging information can't be read. a2l_error_text says what each means. */
+  /* E1 to E33: why debug information can't be read. a2l_error_text says what each means. */
   A2L_E1 = 101, /* out of memory */
   A2L_E2 = 102,
   A2L_E3 = 103,
@@ -103,12 +105,12 @@ enum {
   /* L1 to L8: why a file isn't opened. */
   A2L_L1 = 201, /* out of memory */
   A2L_L2 = 202, /* the file can't be read; no call here returns it */
-  A2L_L3 = 203, /* no ELF file */
+  A2L_L3 = 203, /* not an ELF file */
   A2L_L4 = 204, /* an ELF file of a class, byte order or header size that isn't supported */
   A2L_L5 = 205, /* the file ends before a header, a section or a table does */
-  A2L_L6 = 206, /* a section of debugging information is compressed */
-  A2L_L7 = 207, /* a linker has yet to fill in addresses of debugging information */
-  A2L_L8 = 300, /* the debugging information can't be read: 300 + n for En, 302 to 333 */
+  A2L_L6 = 206, /* a section of debug information is compressed */
+  A2L_L7 = 207, /* a linker has yet to fill in addresses of debug information */
+  A2L_L8 = 300, /* the debug information can't be read: 300 + n for En, 302 to 333 */
 
   /* Z1 to Z12: why compressed sections can't be decompressed. */
   A2L_Z1 = 401, /* the section headers overlap the file's header */
@@ -128,7 +130,7 @@ enum {
 /* ---- What crosses */
 
 /* A loader of one file, in the caller's memory. Zeroed is closed. It is never copied while it is
- * open, and its fields are not touched: `opened` is 1 only where a call has opened it, and `at`,
+ * open, and its fields are not written: `opened` is 1 only where a call has opened it, and `at`,
  * which is then taken as it is, leads to what it owns. */
 typedef struct {
   uint32_t opened;
@@ -159,13 +161,14 @@ typedef struct {
 } a2l_location;
 #define A2L_LOCATION_INIT {A2L_TEXT_INIT, 0, 0, 0, 0, 0, 0, 0, 0, 0}
 
-/* A function, or a call that is inlined. `location` is, in the innermost frame, the place of the
- * address, and in each further one that of the call inside. */
+/* A function, or a call that is inlined. In the innermost frame `location` is the place of the
+ * address; in each frame after it, the place of the call to the one before. */
 typedef struct {
   a2l_text function;
   a2l_location location;
-  uint64_t entry_offset; /* the offset of the entry of the function or call in its unit */
-  uint16_t language;     /* the language of the unit (DW_LANG_*) */
+  /* where the entry of the function or call begins, in bytes from its unit's header on */
+  uint64_t entry_offset;
+  uint16_t language; /* the language of the unit (DW_LANG_*) */
   uint8_t has_function;
   uint8_t has_location;
   uint8_t has_entry_offset;
@@ -195,8 +198,8 @@ typedef struct {
 } a2l_section;
 #define A2L_SECTION_INIT {0, 0}
 
-/* A split file (a .dwo file; DWARF 5, 3.1.3) that a unit's functions are in. The name counts from
- * the directory, unless it is absolute. Here the texts are bytes as the file has them, which may
+/* A split file (a .dwo file; DWARF 5, 3.1.3) that a unit's functions are in. The name is relative
+ * to the directory, unless it is absolute. Here the texts are bytes as the file has them, which may
  * not be UTF-8. */
 typedef struct {
   a2l_text directory;
@@ -218,10 +221,10 @@ enum {
 
 /* ---- Opening and closing */
 
-/* Opens a closed loader over a copy of the bytes of an ELF file, which may go after the call.
- * Refused by A2L_ALREADY_OPEN or A2L_BAD_LOADER, and by L1 to L8; the loader then stays as it is.
- * Sections, symbols and units are found here; lines and functions are read of each unit by the
- * first call that needs them, and kept. */
+/* Opens a closed loader over a copy of the bytes of an ELF file, which may be freed after the
+ * call. Refused by A2L_ALREADY_OPEN or A2L_BAD_LOADER, and by L1 to L8; the loader then stays as
+ * it is. Sections, symbols and units are found here; lines and functions are read of each unit by
+ * the first call that needs them, and kept. */
 int32_t a2l_open(const uint8_t *image, size_t image_len, a2l_loader *loader);
 
 /* The same with a supplementary file (DWARF 5, 7.3.6), which is copied too. */
@@ -229,7 +232,8 @@ int32_t a2l_open_with_sup(const uint8_t *image, size_t image_len, const uint8_t 
                           size_t sup_len, a2l_loader *loader);
 
 /* Opens a closed loader over bytes that stay where they are, mapped and unchanged, until it is
- * closed. Nothing is copied, and only what is needed is read. Else as a2l_open. */
+ * closed. Nothing is copied, and only what is needed is read. Otherwise as a2l_open. Where someone
+ * else cuts a mapped file short, reading it ends the process (SIGBUS), as with any map. */
 int32_t a2l_open_in_place(const uint8_t *image, size_t image_len, a2l_loader *loader);
 
 /* The same with a supplementary file, whose bytes stay too. */
@@ -248,12 +252,12 @@ enum {
   A2L_DECOMPRESS = 4
 };
 
-/* Opens a closed loader as flags say: what the four calls above do, in one, and files whose
- * sections are compressed by zlib, which those refuse by L6, or, where the sections have the older
- * names .zdebug_*, open without them. A file with compressed sections takes memory for itself and
- * for their texts. Refused, in this order, by A2L_ALREADY_OPEN or A2L_BAD_LOADER; by
- * A2L_UNKNOWN_FLAG, before any bytes are read; by L1 to L8, or Z1 to Z12. The loader then stays as
- * it is. */
+/* Opens a closed loader as the flags say: what the four calls above do. With A2L_DECOMPRESS it
+ * also opens files whose sections are compressed by zlib. Those calls refuse such files by L6, or,
+ * where the sections have the older names .zdebug_*, open them without these sections. A file with
+ * compressed sections takes memory for itself and for their texts. Refused, in this order, by
+ * A2L_ALREADY_OPEN or A2L_BAD_LOADER; by A2L_UNKNOWN_FLAG, before any bytes are read; by L1 to L8,
+ * or Z1 to Z12. The loader then stays as it is. */
 int32_t a2l_open_with(const uint8_t *image, size_t image_len, const uint8_t *sup, size_t sup_len,
                       uint32_t flags, a2l_loader *loader);
 
@@ -270,10 +274,10 @@ int32_t a2l_close(a2l_loader *loader);
  * text is lent. */
 int32_t a2l_find_location(a2l_loader *loader, uint64_t address, a2l_location *out);
 
-/* Begins a walk over the stretches of addresses between `low` and before `high`, with their
+/* Begins a walk over the stretches of addresses from `low` to before `high`, with their
  * places, in place of the walk before. Nothing is searched yet. Where units overlap, an address
- * can be in several stretches, and they are not in order. A `low` that is not below `high` has
- * none. */
+ * can be in several stretches, and they are not in order. Where `low` isn't below `high`, there
+ * are none. */
 int32_t a2l_find_ranges(a2l_loader *loader, uint64_t low, uint64_t high);
 
 /* The next stretches of the walk, as many as there is room for: from the first after those that
@@ -342,14 +346,16 @@ int32_t a2l_answer_load_in_place(a2l_loader *loader, size_t number, const uint8_
                                  size_t len);
 
 /* Says that the split file of a number is missing. The unit is then decided for good, as by
- * a2l_answer_load, and what the file itself has of its functions counts. */
+ * a2l_answer_load, and what the file itself has of its functions counts. A2L_PAST_END where there
+ * is none of that number; A2L_E1, after which the unit still waits; the refusal (E2 to E33) of a
+ * unit that was refused before; else A2L_OK. */
 int32_t a2l_skip_load(a2l_loader *loader, size_t number);
 
 /* ---- Refusals */
 
 /* What a call returned, in two texts: its letter and number, as "E16", "L6", "L8 E16" or "Z9", and
  * for 1 to 8 as "C4"; and a sentence that says what it means, in English, without a full stop.
- * A2L_NOT_FOUND for A2L_OK and for a number that stands for nothing, such as 300. The texts are
+ * A2L_NOT_FOUND for A2L_OK and for a number that has no meaning, such as 300. The texts are
  * never freed. */
 int32_t a2l_error_text(int32_t number, a2l_text *code, a2l_text *sentence);
 

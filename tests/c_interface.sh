@@ -79,6 +79,7 @@ cases() { # FOLDER
     case_of 'addr2line -e a.elf -fs 0x1000 0xfff'
     case_of 'addr2line -e a.elf -i 0x1000'
     case_of 'addr2line -e a.elf --all -ap'
+    case_of 'addr2line -e a.elf --all 0x1000'
     case_of 'printf "1000\r\n,\n0x1003" | addr2line -e a.elf -a -i -f'
     case_of 'addr2line -e split.elf -fi 0x1000'
     case_of 'addr2line -e symbols.elf -f 0x1004 0x1008'
@@ -215,8 +216,13 @@ for compiler in gcc g++ clang; do
     check "a program's own stack, by $compiler" compare stack_cases "by-$compiler"
     check "answers in turn, by $compiler" turns "by-$compiler"
 done
+flags_of_shared="$flags" flags="-I$prefix/include $prefix/lib/libaddr2line.a"
+check "cc builds the callers over the archive" build by-archive cc -O2
+check "what the callers print, over the archive" compare cases by-archive
+flags="$flags_of_shared"
 first=by-gcc
 [ -d "$first" ] || first=by-clang
+[ -d "$first" ] || first=by-archive
 cc -g -O1 -o steps "$top/examples/steps.c"
 for file in steps "$data"/a.elf "$data"/split.elf "$data"/symbols.elf "$first/addr2line"; do
     check "addr2line as linemap lookup: $(basename "$file")" is_lookup "$first" "$file"
@@ -230,10 +236,6 @@ check "addr2line as linemap lookup: compressed" is_lookup "$first" packing/packe
 check "addr2line as linemap lookup: .zdebug_*" is_lookup "$first" packing/packed_gnu --decompress
 cp packing/packed.dwo packing/split.dwo
 check "addr2line as linemap lookup: a compressed split file" is_lookup "$first" packing/split --decompress
-flags_of_shared="$flags" flags="-I$prefix/include $prefix/lib/libaddr2line.a"
-check "cc builds the callers over the archive" build by-archive cc -O2
-check "what the callers print, over the archive" compare cases by-archive
-flags="$flags_of_shared"
 if has python3; then
     check "what the callers in Python print" compare python_cases
     check "compressed sections, in Python" python_packed packing/packed

@@ -1,16 +1,16 @@
 /* addr2line: the files, lines and functions of addresses of an ELF file, as `linemap lookup` prints them.
  *
  *     cc -O2 -o addr2line addr2line.c $(pkg-config --cflags --libs addr2line)
- *     ./addr2line -e FILE [-afipsC] [ADDRESS..]
+ *     ./addr2line -e FILE [-afipsC] [--all | ADDRESS..]
  *
  * Addresses are hexadecimal, and come from the standard input where none is given; then each answer is written before
  * the program waits for more, as `perf` needs it. The file is mapped, and nothing of it is copied unless sections of it are
- * compressed (gcc -gz): these are always decompressed. Split files (.dwo) are looked for where it says, mapped, and
+ * compressed (gcc -gz): these are always decompressed. Split files (.dwo) are looked for where the file says, mapped, and
  * decompressed too. `--all` prints all places of the file, one for each address that begins one.
  *
  * The form is that of GNU's command of this name. What differs from it: -C demangles names of Rust's legacy mangling alone, and
  * none of C++; the last function of an address has the name of the symbol that holds it; where nothing is known, -pf prints
- * `?? at ??:0` for `?? ??:0`; -a prints 16 digits also for files of 32 bits.
+ * `?? at ??:0`, where GNU's prints `?? ??:0`; -a prints 16 digits also for files of 32 bits.
  */
 #include <addr2line.h>
 #include <errno.h>
@@ -308,6 +308,10 @@ int main(int argc, char **argv) {
         case 'A': options.all = 1; break;
         default: return 2;
         }
+    if (options.all && optind < argc) {
+        fputs("addr2line: --all takes no addresses\n", stderr);
+        return 2;
+    }
     int is_open = open_file();
     if (is_open && options.all)
         answer_all();

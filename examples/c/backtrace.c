@@ -3,7 +3,7 @@
  *     cc -g -O2 -o backtrace backtrace.c $(pkg-config --cflags --libs addr2line)
  *     ./backtrace
  *
- * print_stack() is what another program would take over: it maps the program's own file, which has its debugging information, and
+ * print_stack() is what another program would take over: it maps the program's own file, which has its debug information, and
  * copies nothing. Frames of shared libraries are given by their file's name alone.
  */
 #ifndef _GNU_SOURCE
@@ -61,7 +61,7 @@ static void print_place(const a2l_location *place) {
     putchar('\n');
 }
 
-/* Prints the frames of an address of the program, or its symbol where there is no debugging information. */
+/* Prints the frames of an address of the program, or its symbol where there is no debug information. */
 static void print_frames(a2l_loader *loader, int level, uint64_t address) {
     static const a2l_text unknown = {(const uint8_t *)"??", 2};
     a2l_frame frame = A2L_FRAME_INIT;
@@ -83,7 +83,7 @@ static void print_frames(a2l_loader *loader, int level, uint64_t address) {
 
 /* ---- The stack */
 
-/* Maps the program's own file, and opens it. The map stays as long as the loader. */
+/* Maps the program's own file, and opens it, decompressed if it needs that. The map stays as long as the loader. */
 static int open_program(a2l_loader *loader, void **map, size_t *size) {
     struct stat about;
     int file = open("/proc/self/exe", O_RDONLY), is_mapped;
@@ -96,9 +96,9 @@ static int open_program(a2l_loader *loader, void **map, size_t *size) {
     }
     close(file);
     if (!is_mapped) return 0;
-    if (a2l_open_in_place((const uint8_t *)*map, *size, loader) == A2L_OK) return 1;
-    munmap(*map, *size);
-    return 0;
+    int32_t why = a2l_open_with((const uint8_t *)*map, *size, (const uint8_t *)"", 0, A2L_IN_PLACE | A2L_DECOMPRESS, loader);
+    if (why != A2L_OK) munmap(*map, *size);
+    return why == A2L_OK;
 }
 
 /* Prints the stack of the caller, from the innermost call on. */
@@ -108,7 +108,7 @@ static void __attribute__((noinline)) print_stack(void) {
     a2l_loader loader = A2L_LOADER_INIT;
     size_t size;
     if (!open_program(&loader, &map, &size)) {
-        puts("no debugging information");
+        puts("no debug information");
         return;
     }
     for (int level = 1; level < count; level++) {

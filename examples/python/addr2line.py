@@ -15,8 +15,10 @@ else that of the system, or of `tools/install` in the user's home.
 """
 import builtins
 import ctypes
+import errno
 import mmap
 import os
+import stat
 from typing import Iterator, NamedTuple, Optional
 
 __all__ = ["open", "Frame", "Image", "Location", "Range", "Refused", "Symbol"]
@@ -166,6 +168,7 @@ class Range(NamedTuple):
 
 
 class Symbol(NamedTuple):
+    """A symbol, and the address of its first byte."""
     name: str
     address: int
 
@@ -190,11 +193,22 @@ def _checked(number, *others):
     return number == OK
 
 
+def _open_regular(path, flags):
+    """Opens a file for `open`, which doesn't wait where that is a FIFO. Only a regular file is opened."""
+    file = os.open(path, flags | os.O_NONBLOCK)
+    mode = os.fstat(file).st_mode
+    if stat.S_ISREG(mode):
+        return file
+    os.close(file)
+    number = errno.EISDIR if stat.S_ISDIR(mode) else errno.EINVAL
+    raise OSError(number, os.strerror(number), path)
+
+
 class _Map:
     """A file in memory: its pages are read when they are needed."""
 
     def __init__(self, path):
-        with builtins.open(path, "rb") as file:
+        with builtins.open(path, "rb", opener=_open_regular) as file:
             self.size = os.fstat(file.fileno()).st_size
             # (ctypes takes the address of a map only where that can be written; no page is copied unless one is)
             self.map = mmap.mmap(file.fileno(), self.size, access=mmap.ACCESS_COPY) if self.size else None
@@ -215,8 +229,11 @@ class Image:
     def __init__(self, image, sup=None):
         self._loader, self._maps, self._walk = _Loader(), [], 0
         flags = DECOMPRESS if sup is None else DECOMPRESS | SUP
+        is_copied = isinstance(image, (bytes, bytearray))
+        if sup is not None and isinstance(sup, (bytes, bytearray)) != is_copied:
+            raise TypeError("an image and its supplement are both paths, or both bytes")
         try:
-            if isinstance(image, (bytes, bytearray)):
+            if is_copied:
                 words = *self._copied(image), *self._copied(sup or b"")
             else:
                 flags |= IN_PLACE
@@ -262,7 +279,7 @@ class Image:
         return found.value() if self._call("find_location", address, ctypes.byref(found), others=[NOT_FOUND]) else None
 
     def ranges(self, low=0, high=LAST_ADDRESS) -> Iterator[Range]:
-        """The ranges of addresses between two, each with its place. One walk at a time."""
+        """The ranges of addresses from `low` to before `high`, each with its place. One walk at a time."""
         batch, count = (_Range * BATCH)(*(_new(_Range) for _ in range(BATCH))), ctypes.c_size_t()
         self._walk += 1
         walk = self._walk
@@ -270,9 +287,9 @@ class Image:
         while self._call("next_ranges", batch, BATCH, ctypes.byref(count), others=[PAST_END]):
             found = [Range(it.address, it.address + it.length, it.location.value()) for it in batch[:count.value]]
             for it in found:
+                yield it
                 if self._walk != walk:
                     raise RuntimeError("another walk over ranges has begun")
-                yield it
 
     def __iter__(self):
         return self.ranges()
@@ -327,5 +344,6 @@ class Image:
 
 
 def open(image, sup=None) -> Image:
-    """Opens the ELF file of a path, which is mapped, or of bytes, which are copied, and its supplement, if it has one."""
+    """Opens the ELF file of a path, which is mapped, or of bytes, which are copied. Its supplement, if it has one, is named in
+    the same way: both paths, or both bytes."""
     return Image(image, sup)

@@ -5,9 +5,10 @@ usage: fold.py FILE [--base ADDRESS] [--outermost-first] [--exact] < STACKS
 
 Each line of STACKS is a stack: addresses in hexadecimal, the innermost first, unless the option says otherwise. Each line that
 is printed has the names of a stack's functions, the outermost first, with `;` between them, and how many stacks are the same.
-FILE is the ELF file of the program. Addresses count from ADDRESS on, where that file is mapped there. All but the innermost are
-where calls return to, so that the call is before them: with `--exact` they are taken as they are. Addresses outside of the
-program's code, such as those of shared libraries, are `[unknown]`. Names of C++ stay as they are: c++filt demangles them.
+FILE is the ELF file of the program. With `--base`, addresses are those of a running program whose file is mapped from ADDRESS
+on. All but the innermost are return addresses, so 1 is subtracted to find the call; with `--exact` they are taken as they are.
+Addresses outside of the program's code, such as those of shared libraries, are `[unknown]`. Names of C++ stay as they are:
+c++filt demangles them.
 """
 import argparse
 import collections
