@@ -18,14 +18,14 @@ rustc -O --edition 2021 -o "$work/plain" "$top/bench/$part.rs"
 count() { # NAME OPTIONS WORD..
     local name="$1"
     # shellcheck disable=SC2086 (several options)
-    valgrind --tool=callgrind $2 --callgrind-out-file="$work/$name" "${@:3}" > /dev/null 2> "$work/$name.said"
+    valgrind --tool=callgrind $2 --callgrind-out-file="$work/$name.counts" "${@:3}" > /dev/null 2> "$work/$name.said"
     sed -n 's/: [0-9]* us$//p' "$work/$name.said" > "$work/$name.names"
-    ls -v "$work/$name".[0-9]* > "$work/$name.parts"
+    ls -v "$work/$name".counts.[0-9]* > "$work/$name.parts"
 }
 
 # The plain loops do their work in `report`: what comes before its next call, and the end, is a row's.
 count plain "--dump-before=*::report*" "$work/plain" "$size"
-{ tail -n +2 "$work/plain.parts"; echo "$work/plain"; } | xargs awk '/^totals: / { print $2 }' \
+{ tail -n +2 "$work/plain.parts"; echo "$work/plain.counts"; } | xargs awk '/^totals: / { print $2 }' \
     | paste "$work/plain.names" - > "$work/plain.rows"
 # Ours ask for the time before a row, and report it afterwards.
 count ours "--dump-before=*Instant::now* --dump-before=*timing::report*" "$program" "$part" "$size"

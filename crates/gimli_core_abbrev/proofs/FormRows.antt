@@ -137,8 +137,10 @@ of_form-small form =
     by_tests false false false false true n2 n3 n4 n8 n16 = (omega arith, omega arith, omega arith, omega arith)
     by_tests false false false false false true n3 n4 n8 n16 = (omega arith, omega arith, omega arith, omega arith)
     by_tests false false false false false false true n4 n8 n16 = (omega arith, omega arith, omega arith, omega arith)
-    by_tests false false false false false false false true n8 n16 = (omega arith, omega arith, omega arith, omega arith)
-    by_tests false false false false false false false false true n16 = (omega arith, omega arith, omega arith, omega arith)
+    by_tests false false false false false false false true n8 n16 =
+        (omega arith, omega arith, omega arith, omega arith)
+    by_tests false false false false false false false false true n16 =
+        (omega arith, omega arith, omega arith, omega arith)
     by_tests false false false false false false false false false true =
         (omega arith, omega arith, omega arith, omega arith)
     by_tests false false false false false false false false false false = none
