@@ -27,9 +27,10 @@ module _ (us : List ResolvedUnit) (meaning : Lookup (Result (List Frame) Error))
 abbrev pub ok_unit : Option UnitInFile → Result (Option UnitInFile) Error
 ok_unit u = Ok u
 
-pub unit_lent : (vs : List AnsweredUnit) (meaning : Lookup (Option UnitInFile)) (n : ℕ) (u : Option UnitInFile)
-    → FoundUnit vs meaning n → u ≡ unit_at_number vs n → map_output ok_unit meaning ≡ output (Ok u)
-unit_lent vs meaning n u f is = ap (map_output ok_unit) (f.is_found ∙ ap output (sym is))
+pub unit_lent : (vs : List AnsweredUnit) (us : List ResolvedUnit) (meaning : Lookup (Option UnitInFile)) (n : ℕ)
+    (u : Option UnitInFile) → FoundUnit vs us meaning n → u ≡ unit_at_number vs n
+    → map_output ok_unit meaning ≡ output (Ok u)
+unit_lent vs us meaning n u f is = ap (map_output ok_unit) (f.is_found ∙ ap output (sym is))
 
 pub no_unit : (meaning : Lookup (Option UnitInFile)) → meaning ≡ output None
     → map_output ok_unit meaning ≡ output (ok_unit None)

@@ -186,10 +186,10 @@ module _ (file : DwarfFile) (us : List ResolvedUnit) (s : List UnitFacts) {frame
           (covering_ranges a (ordered_ranges (map plain_unit us)))
 
       pub unit_settled : (result : Result (Settled ℕ) Error)
-          → SettlesUnit (map value_of_unit us) (unit_given given) result
-          → SettlesUnit (map value_of_unit new) (unit_in c.value a) result
+          → SettlesUnit (map value_of_unit us) new (unit_given given) result
+          → SettlesUnit (map value_of_unit new) new (unit_in c.value a) result
       unit_settled result h =
-          subst (λ (vs : List AnsweredUnit). SettlesUnit vs (unit_in c.value a) result) (sym same)
-          (subst (λ (m : Lookup (Option UnitInFile)). SettlesUnit (map value_of_unit us) m result)
+          subst (λ (vs : List AnsweredUnit). SettlesUnit vs new (unit_in c.value a) result) (sym same)
+          (subst (λ (m : Lookup (Option UnitInFile)). SettlesUnit (map value_of_unit us) new m result)
           (ap unit_given given_is
           ∙ sym (unit_in_context file us s holds.are_of_file a c.value (value_is file us s c is))) h)

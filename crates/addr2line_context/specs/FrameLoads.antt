@@ -54,5 +54,5 @@ IsSettled (Err e) (Err d) = (e ≡ Memory) × (d ≡ Memory)
 
 -- A lookup finds the unit of a number among these, or none.
 abbrev pub DecidesUnit : List ResolvedUnit → Lookup (Option UnitInFile) → DecidedUnit → Type 0
-DecidesUnit us meaning (Number n) = FoundUnit (map value_of_unit us) meaning n
+DecidesUnit us meaning (Number n) = FoundUnit (map value_of_unit us) us meaning n
 DecidesUnit us meaning NoUnit = meaning ≡ output None

@@ -427,7 +427,7 @@ impl<R: Reader> Context<R> {
 
     // The number of the unit of an address, unless a load needs an answer before.
     pub(crate) fn settle_unit(&mut self, probe: u64) -> Result<Settled<usize>, Error>
-        ensures found { SettlesUnit (map value_of_unit self.new.units)
+        ensures found { SettlesUnit (map value_of_unit self.new.units) self.new.units
             (unit_in self.old.value probe) result }
         ensures after { AfterSearch unit_search (result ≢ Err Memory) probe self.old self.new }
     {

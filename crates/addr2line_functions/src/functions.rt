@@ -108,8 +108,8 @@ fn if_has_range<O: ReaderOffset>(
     })
 }
 
-// Reads a function's attributes, and puts those that ranges come from (DWARF 5, 2.17) into a list, in
-// place of its contents. Where its declaration has none of these, no name is compared.
+// Reads a function's attributes, and puts those that ranges come from (DWARF 5, 2.17) into a list,
+// in place of its contents. Where its declaration has none of these, no name is compared.
 fn read_range_attributes<R: Reader>(
     entries: &mut EntriesRaw<'_, R>,
     abbreviation: &Abbreviation<'_>,

@@ -6,6 +6,7 @@ use Rattle.std.proofs.lemmas.List.Elements.{All-set}
 use Rattle.std.proofs.lemmas.Option.{slice_get-map, slice_get-get_or, get_or_from_slice_get}
 use Rattle.std.proofs.Math.Seq.{map-set_same}
 use Rattle.addr2line_unit.specs.Error.{Error}
+use Rattle.addr2line_unit.specs.Calls.{Returns}
 use Rattle.addr2line_unit.specs.Results.{and_then}
 use Rattle.addr2line_unit.specs.DwarfFiles.{DwarfFile}
 use Rattle.addr2line_unit.specs.UnitFacts.{UnitFacts, in_file}
@@ -45,6 +46,17 @@ set_same xs n x is =
 -- a decided unit stays as it is
 pub decided_stays : (v : AnsweredUnit) (later : FirstAnswer) → pending_load v ≡ None → with_unit_answer later v ≡ v
 decided_stays v later decided = ap (λ o. record v { first = first_with o later v.first }) decided
+
+-- so does one without a load
+returned : (r meaning : Result (Unit {0}) Error) → Returns r meaning → meaning ≡ r
+returned (Ok x) meaning h = h
+returned (Err e) meaning h = h
+
+pub answer_without_load : (v : AnsweredUnit) (file : Option DwarfFile) (r : Result (Unit {0}) Error)
+    → load_of (main_unit v) ≡ Ok None → Returns r (check_unit v) → answer_unit v file ≡ (r, v)
+answer_without_load v file r none h =
+    ap (λ w. (check_unit w, w)) (decided_stays v (answer_of v.unit.facts file) (ap (λ l. undecided l v.first) none))
+    ∙ ap (λ x. (x, v)) (returned r (check_unit v) h)
 
 -- ---- units
 

@@ -4,7 +4,7 @@ use Rattle.std.specs.Prelude.{All, option_and_then}
 use Rattle.std.proofs.lemmas.List.Elements.{All-nil, All-cons, All-head, All-tail, All-set, All-get_or}
 use Rattle.std.proofs.Math.Seq.{map-set_same}
 use Rattle.std.proofs.lemmas.Option.{slice_get-get_or, slice_get-map}
-use Rattle.std.proofs.lemmas.List.{length-set}
+use Rattle.std.proofs.lemmas.List.{length-set, set-get_or}
 use Rattle.addr2line_unit.specs.Error.{Error}
 use Rattle.addr2line_unit.specs.Error.TheVariants.{Memory}
 use Rattle.addr2line_unit.specs.Calls.{Returns, ReturnsOrNoMemory, ReturnsAsOrNoMemory}
@@ -185,6 +185,11 @@ module _ (u w : ResolvedUnit) (is : w ≡ with_functions u) where
 
 -- ---- the unit of a number among others
 
+-- units of which one is put in its own place
+pub same_again : (us : List ResolvedUnit) (n : ℕ) (u : ResolvedUnit) → u ≡ get_or us n u → (new : ResolvedUnit)
+    → new ≡ u → set us n new ≡ us
+same_again us n u is new same = ap (set us n) (same ∙ is) ∙ set-get_or us n u
+
 module _ (us : List ResolvedUnit) (n : ℕ) (u : ResolvedUnit) (below : n < length us) (is : u ≡ get_or us n u) where
   pub unit_here : slice_get us n ≡ Some u
   unit_here = slice_get-get_or us n u below ∙ ap Some (sym is)
@@ -257,6 +262,21 @@ module _ (us : List ResolvedUnit) (n : ℕ) (u : ResolvedUnit) (below : n < leng
 
     pub same_calls : new.calls ≡ u.calls → map kept_calls_of (set us n new) ≡ map kept_calls_of us
     same_calls same = map-set_same kept_calls_of us n new u (same ∙ ap kept_calls_of is)
+
+-- calls that were read for the unit of a number have its counter
+module _ (us : List ResolvedUnit) (n : ℕ) (u : ResolvedUnit) (below : n < length us) (is : u ≡ get_or us n u) where
+  abbrev IsCountedBy : CountedCalls → ResolvedUnit → Type 0
+  IsCountedBy f w = f.counter ≡ w.probes.name
+
+  pub counter_here : (r : Result CountedCalls Error) → IfOk r (λ f. IfSome (slice_get us n) (IsCountedBy f))
+      → IfOk r (λ f. IsCountedBy f u)
+  counter_here (Ok f) h = if_here us n u below is (IsCountedBy f) h
+  counter_here (Err e) h = tt
+
+  pub counter_there : (r : Result CountedCalls Error) → IfOk r (λ f. IsCountedBy f u)
+      → IfOk r (λ f. IfSome (slice_get us n) (IsCountedBy f))
+  counter_there (Ok f) h = if_there us n u below is (IsCountedBy f) h
+  counter_there (Err e) h = tt
 
 -- a number below the count of functions is one of them
 pub has_function : (us : List ResolvedUnit) (n k : ℕ) → k < count_at us n → HasFunctionAt us n k

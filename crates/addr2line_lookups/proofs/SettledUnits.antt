@@ -12,6 +12,7 @@ use Rattle.addr2line_unit.specs.UnitRange.{UnitRange}
 use Rattle.addr2line_unit.specs.EntryReferences.{KnownUnits, HoldingUnit}
 use Rattle.addr2line_unit.specs.ResolvedUnits.{ResolvedUnit, AnsweredUnit, value_of_unit, main_unit, first_answer, unit_of_functions}
 use Rattle.addr2line_unit.specs.ContextNames.{naming_from}
+use Rattle.addr2line_lookups.specs.KeptUnits.{KeepsFunctionsAt}
 use Rattle.addr2line_lookups.specs.Preloads.{load_at}
 use Rattle.addr2line_lookups.specs.KeptCalls.{known_among, HoldCalls}
 use Rattle.addr2line_lookups.specs.FramePlaces.{frames_of_answered, frames_of_any, frames_at_number}
@@ -149,8 +150,13 @@ module _ (known : KnownUnits) (vs : List AnsweredUnit) (a n : ℕ) where
       is_held (holder_of v)
       (λ holder. frames_of_unit holder.unit (naming_from known holder) v.unit.language v.unit.lines a) h
 
-  pub has_unit : has_frames (frames_at_number known vs a n) ≡ true → FoundUnit vs asked_unit n
-  has_unit h = record { is_found = ap output (any_with (slice_get vs n) h); is_one = any_held (slice_get vs n) h }
+  pub has_unit : (us : List ResolvedUnit) → has_frames (frames_at_number known vs a n) ≡ true → KeepsFunctionsAt us n
+      → FoundUnit vs us asked_unit n
+  has_unit us h kept = record {
+    is_found = ap output (any_with (slice_get vs n) h);
+    is_one = any_held (slice_get vs n) h;
+    keeps_functions = kept;
+  }
 
 -- ---- the unit of a number
 

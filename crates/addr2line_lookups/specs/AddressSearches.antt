@@ -7,7 +7,7 @@ use Rattle.addr2line_unit.specs.UnitRange.{UnitRange}
 use Rattle.addr2line_unit.specs.NumberedRanges.{covering_ranges}
 use Rattle.addr2line_unit.specs.EntryReferences.{KnownUnits}
 use Rattle.addr2line_unit.specs.ResolvedUnits.{AnsweredUnit, ResolvedUnit, value_of_unit}
-use Rattle.addr2line_lookups.specs.KeptUnits.{ReadsAsked, ReadsAskedFunctions}
+use Rattle.addr2line_lookups.specs.KeptUnits.{KeepsFunctionsAt, ReadsAsked, ReadsAskedFunctions}
 use Rattle.addr2line_lookups.specs.KeptCalls.{HoldCalls}
 use Rattle.addr2line_lookups.specs.LookupCosts.{AtMostLooks, frame_probes_at, search_looks}
 use Rattle.addr2line_lookups.specs.FramePlaces.{FindsFrames, frames_at_number}
@@ -59,7 +59,7 @@ pub record EndsSearch {A P : Type 0} (is_something : A → Bool) (nothing : A)
       → ((x : A) → m ≡ output x → is_something x ≡ true → n ≡ output x) → refuses m e → refuses n e
 
 -- What a search makes of the frames in the unit of a number, or of their refusal, is what it finds
--- where it asks that unit.
+-- where it asks that unit. The functions of the unit are kept then, unless memory ran out.
 abbrev pub SettlesFrom : {A P : Type 0} → A → (KnownUnits → ℕ → AnsweredUnit → A)
     → (List AnsweredUnit → List ResolvedUnit → Lookup A → P → Type 0)
     → (Lookup A → Error → Type 0) → ℕ → Result (Option FramePlace) Error
@@ -67,6 +67,7 @@ abbrev pub SettlesFrom : {A P : Type 0} → A → (KnownUnits → ℕ → Answer
 SettlesFrom nothing ask finds refuses number frames result =
     (known : KnownUnits) (a : ℕ) (vs : List AnsweredUnit) (us : List ResolvedUnit)
     → FindsFrames us (frames_at_number known vs a number) frames
+    → (frames ≢ Err Memory → KeepsFunctionsAt us number)
     → Settles (finds vs us) refuses nothing
     (output (ask_if_any (ask known a) nothing (slice_get vs number))) result
 

@@ -10,6 +10,7 @@ use Rattle.addr2line_unit.specs.Lookups.{first_output, has_frames, is_answer, is
 use Rattle.addr2line_unit.specs.UnitRange.{UnitRange}
 use Rattle.addr2line_unit.specs.EntryReferences.{KnownUnits, HoldingUnit}
 use Rattle.addr2line_unit.specs.ResolvedUnits.{ResolvedUnit, AnsweredUnit, main_unit, first_answer, unit_of_functions}
+use Rattle.addr2line_lookups.specs.KeptUnits.{KeepsFunctionsAt}
 use Rattle.addr2line_lookups.specs.Preloads.{load_at}
 use Rattle.addr2line_lookups.specs.FramePlaces.{HoldsFrames, frames_of_answered}
 use Rattle.addr2line_lookups.specs.declared.frame_place.FramePlace.{FramePlace}
@@ -116,13 +117,15 @@ unit_at_number vs n =
     ask_if_any (λ v. unit_if_any (unit_of_functions (main_unit v) (first_answer v))) None
     (slice_get vs n)
 
--- a lookup finds the unit of a number
-pub record FoundUnit (vs : List AnsweredUnit) (meaning : Lookup (Option UnitInFile)) (n : ℕ)
-    : Type 0 where
+-- a lookup finds the unit of a number, whose functions are kept
+pub record FoundUnit (vs : List AnsweredUnit) (us : List ResolvedUnit)
+    (meaning : Lookup (Option UnitInFile)) (n : ℕ) : Type 0 where
   pub is_found : meaning ≡ output (unit_at_number vs n)
   pub is_one : is_there (unit_at_number vs n) ≡ true
+  pub keeps_functions : KeepsFunctionsAt us n
 
 -- What settling a lookup of a unit found. What refuses frames refuses none.
-abbrev pub SettlesUnit : List AnsweredUnit → Lookup (Option UnitInFile)
+abbrev pub SettlesUnit : List AnsweredUnit → List ResolvedUnit → Lookup (Option UnitInFile)
     → Result (Settled ℕ) Error → Type 0
-SettlesUnit vs meaning result = Settles (FoundUnit vs) (λ m e. e ≡ Memory) None meaning result
+SettlesUnit vs us meaning result =
+    Settles (FoundUnit vs us) (λ m e. e ≡ Memory) None meaning result

@@ -110,7 +110,7 @@ impl AddressSearch for UnitSearch {
 
     ghost ask = { unit_of_answered };
 
-    ghost Finds = { λ vs us. FoundUnit vs };
+    ghost Finds = { FoundUnit };
 
     ghost Refuses = { λ m e. e ≡ Memory };
 

@@ -1,7 +1,7 @@
 //! The function of an address in the unit of a number, found with the calls that the address is in.
 //! What is read for that is kept.
 
-ghost use Rattle.std.specs.Prelude.{◌≡◌, ◌≢◌, ◌<◌, true, None, Err, length, map, IfOk, IfSome, OnOk, IfErr};
+ghost use Rattle.std.specs.Prelude.{◌≡◌, ◌≢◌, ◌<◌, true, None, Err, length, map, slice_get, IfOk, IfSome, OnOk, IfErr};
 ghost use Rattle.addr2line_unit.specs.Calls.{ReturnsOrNoMemory, ReturnsAsOrNoMemory};
 ghost use Rattle.addr2line_unit.specs.Error.TheVariants.{Memory};
 ghost use Rattle.addr2line_unit.specs.OrderedUnits.{AreKnownInOrder};
@@ -87,6 +87,50 @@ fn read_calls<R: Reader>(
     unit.read_calls(alloc, &names, function)
 }
 
+// Makes all units whole. The only refusal is out of memory.
+fn make_all_whole<R: Reader>(alloc: Global, units: &mut Vec<ResUnit<R>>) -> Result<(), Error>
+    ensures units { units.new.items ≡ units.old.items }
+    ensures refusal { IfErr result (λ e. e ≡ Memory) }
+{
+    let mut number = 0;
+    while number < units.len() {
+        let unit = &mut units[number];
+        unit.make_whole(alloc)?;
+        number += 1;
+    }
+    Ok(())
+}
+
+// The calls of the function of a number in the unit of a number. A unit that one of their names is
+// in may not be whole, which is out of memory: then all units are made whole, once, and the calls
+// are read again.
+fn read_calls_at<R: Reader>(
+    alloc: Global,
+    units: &mut Vec<ResUnit<R>>,
+    supplement_units: &[Unit<R>],
+    number: usize,
+    function: usize,
+) -> Result<FunctionCalls<R>, Error>
+    requires unit { number < length units.old.items }
+    requires function { HasFunctionAt units.old.items number function }
+    requires order { AreKnownInOrder (known_among units.old.items supplement_units.now) }
+    ensures units { units.new.items ≡ units.old.items }
+    ensures calls { IfSome (slice_get units.old.items number) (λ u.
+        ReturnsAsOrNoMemory (λ c. c.function) result
+        (calls_among (known_among units.old.items supplement_units.now) u.value function)) }
+    ensures counter { IfOk result (λ c. IfSome (slice_get units.old.items number) (λ u.
+        c.counter ≡ u.probes.name)) }
+{
+    let unit = &units[number];
+    let read = read_calls(alloc, units.as_slice(), supplement_units, unit, function);
+    if !matches!(&read, Err(Error::Memory)) {
+        return read;
+    }
+    make_all_whole(alloc, units)?;
+    let unit = &units[number];
+    read_calls(alloc, units.as_slice(), supplement_units, unit, function)
+}
+
 /// Reads the calls of the function of a number in the unit of a number, unless they are kept. A
 /// refusal is kept too: the only error is out of memory.
 pub fn keep_calls<R: Reader>(
@@ -116,7 +160,7 @@ pub fn keep_calls<R: Reader>(
     if unit.kept_calls(function).is_some() {
         return Ok(());
     }
-    let read = read_calls(alloc, units.as_slice(), supplement_units, unit, function);
+    let read = read_calls_at(alloc, units, supplement_units, number, function);
     let unit = &mut units[number];
     unit.keep_calls(function, read)
 }

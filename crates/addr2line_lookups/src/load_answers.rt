@@ -36,13 +36,11 @@ fn answer_or_refusal<R: Reader>(
 fn check_unit<R: Reader>(unit: &ResUnit<R>) -> Result<(), Error>
     ensures { Returns result (check_unit unit.now.value) }
 {
-    match unit.functions_unit() {
-        Ok(_) => Ok(()),
-        Err(error) => Err(error),
-    }
+    unit.check_decided()
 }
 
-// Records what a file makes of a unit whose load needs an answer, and whether it is a refusal.
+// Records what a file makes of a unit whose load needs an answer, and whether it is a refusal. Such
+// a unit is whole.
 fn record_answer<R: Reader>(
     alloc: Global,
     unit: &mut ResUnit<R>,
@@ -55,7 +53,11 @@ fn record_answer<R: Reader>(
     ensures lines { unit.new.keeps_lines ≡ unit.old.keeps_lines }
     ensures functions { unit.new.keeps_functions ≡ unit.old.keeps_functions }
 {
-    let answer = answer_or_refusal(alloc, unit.main().unit(), file)?;
+    let Some(main) = unit.main() else {
+        drop(file);
+        return check_unit(unit);
+    };
+    let answer = answer_or_refusal(alloc, main.unit(), file)?;
     unit.record_answer(answer);
     check_unit(unit)
 }

@@ -88,12 +88,14 @@ pub(crate) fn settle<R: Reader, S: AddressSearch>(
     Ok(Settled::Nothing)
 }
 
-// The unit that has the functions of the unit of a number, where nothing refuses it.
+// The unit that has the functions of the unit of a number, where nothing refuses it, and the
+// functions are kept.
 pub(crate) fn functions_unit_at<R: Reader>(
     units: &[ResUnit<R>],
     number: usize,
 ) -> Option<UnitRef<'_, R>>
-    ensures { result ≡ unit_at_number (map value_of_unit units.now) number }
+    ensures { KeepsFunctionsAt units.now number
+        → result ≡ unit_at_number (map value_of_unit units.now) number }
 {
     match unit_at(units, number) {
         Some(unit) => match unit.functions_unit() {

@@ -17,7 +17,7 @@ ghost use Rattle.addr2line_lookups.specs.PassedUnits.{Pass, PassFrames, PassUnit
 ghost use Rattle.addr2line_lookups.specs.UnitLookups.{frames_among, SettlesFrames, unit_among, SettlesUnit, unit_at_number};
 ghost use Rattle.addr2line_lookups.specs.AddressSearches.{SettlesAmong};
 ghost use Rattle.addr2line_unit.specs.BorrowedFrames.{frames_left};
-ghost use Rattle.addr2line_lookups.specs.KeptUnits.{KeepsAt, KeepsFound, KeepsAsked, ReadsAsked, ReadsNoLines, ReadsAskedFunctions, ReadsNoFunctions, AsksForRow, AsksForLines, FindsRow, location_of_unit_row};
+ghost use Rattle.addr2line_lookups.specs.KeptUnits.{KeepsAt, KeepsFunctionsAt, KeepsFound, KeepsAsked, ReadsAsked, ReadsNoLines, ReadsAskedFunctions, ReadsNoFunctions, AsksForRow, AsksForLines, FindsRow, location_of_unit_row};
 ghost use Rattle.addr2line_lookups.specs.RangeWalks.{FindsStretch, KeepsStretch, stretches_left, AsksForNextStretch, StaysOnItsWay, walk_looks};
 ghost use Rattle.addr2line_lookups.specs.LookupCosts.{AtMostLooks, TakesLooks, row_looks, frame_search_looks, unit_search_looks};
 ghost use Rattle.addr2line_lookups.specs.UnitParses.{WalksOrNoMemory, KeepsParsed, KeepAllCalls, check_functions_of, check_calls_of};
@@ -314,7 +314,7 @@ impl<R: Reader> Units<R> {
             (ordered_ranges (map plain_unit self.old)) }
         ensures values { map value_of_unit self.new ≡ map value_of_unit self.old }
         ensures calls { HoldCalls (known_among self.old supplement_units.now) self.new }
-        ensures found { SettlesUnit (map value_of_unit self.old)
+        ensures found { SettlesUnit (map value_of_unit self.old) self.new
             (unit_among (known_among self.old supplement_units.now) (map value_of_unit self.old)
             probe (covering_ranges probe (ordered_ranges (map plain_unit self.old)))) result }
         ensures cost { AtMostLooks (unit_search_looks
@@ -349,9 +349,11 @@ impl<R: Reader> Units<R> {
         }
     }
 
-    /// The unit that has the functions of the unit of a number, where nothing refuses it.
+    /// The unit that has the functions of the unit of a number, where nothing refuses it, and the
+    /// functions are kept.
     pub fn functions_unit_at(&self, number: usize) -> Option<UnitRef<'_, R>>
-        ensures { result ≡ unit_at_number (map value_of_unit self.now) number }
+        ensures { KeepsFunctionsAt self.now number
+            → result ≡ unit_at_number (map value_of_unit self.now) number }
     {
         functions_unit_at(self.units.as_slice(), number)
     }

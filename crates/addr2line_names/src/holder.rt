@@ -1,6 +1,6 @@
 //! The units that hold entries.
 
-ghost use Rattle.std.specs.Prelude.{◌≡◌, Ok, option_map};
+ghost use Rattle.std.specs.Prelude.{◌≡◌, Ok, IfSome, option_map};
 ghost use Rattle.gimli_dwarf.specs.Calls.{ReturnsAsOrNoMemory};
 ghost use Rattle.gimli_dwarf.specs.AttributeMeanings.{value_under};
 ghost use Rattle.gimli_dwarf.specs.AttributeValues.{raw_attribute_of, raw_value_of};
@@ -9,23 +9,33 @@ ghost use Rattle.addr2line_names.specs.EntryNamings.{is_linkage_name, text_of};
 
 use crate::attributes::is_linkage_name;
 use crate::file::DebugFile;
-use gimli_dwarf::{Attribute, AttributeValue, Dwarf, Error, Reader, ReaderOffset, Unit, UnitRef};
+use gimli_dwarf::{
+    Attribute, AttributeValue, Dwarf, Error, Reader, ReaderOffset, Unit, UnitHeader, UnitRef,
+};
 use std::marker::Model;
 
 /// A value with a unit. A list of them can be searched for the unit that a reference leads to.
 pub trait HasUnit<R: Reader> {
     ghost facts: { Self → UnitFacts };
 
-    /// The unit.
-    fn unit(&self) -> &Unit<R>
-        ensures { result.now ≡ facts self.now };
+    /// The header of the unit.
+    fn header(&self) -> &UnitHeader<R>
+        ensures { result.now ≡ (facts self.now).header };
+
+    /// The unit; none where its declarations aren't kept yet.
+    fn unit(&self) -> Option<&Unit<R>>
+        ensures { IfSome result (λ u. u.now ≡ facts self.now) };
 }
 
 impl<R: Reader> HasUnit<R> for Unit<R> {
     ghost facts = { λ u. u };
 
-    fn unit(&self) -> &Unit<R> {
-        self
+    fn header(&self) -> &UnitHeader<R> {
+        &self.header
+    }
+
+    fn unit(&self) -> Option<&Unit<R>> {
+        Some(self)
     }
 }
 

@@ -1,7 +1,7 @@
 //! The names of entries.
 
 ghost use Rattle.std.specs.Prelude.{◌≡◌, map, option_map};
-ghost use Rattle.gimli_dwarf.specs.Calls.{ReturnsAs, Returns, ReturnsAsOrNoMemory};
+ghost use Rattle.gimli_dwarf.specs.Calls.{ReturnsAsOrNoMemory, ReturnsOrNoMemory};
 ghost use Rattle.gimli_dwarf.specs.DwarfFiles.{supplement};
 ghost use Rattle.gimli_dwarf.specs.AttributeValues.{raw_value_of, raw_attribute_of};
 ghost use Rattle.gimli_dwarf.specs.EntryViews.{raw_attributes};
@@ -38,7 +38,8 @@ impl<'a, R: Reader, U: HasUnit<R>> Model for KnownUnits<'a, R, U> {
 
 impl<'a, R: Reader, U: HasUnit<R>> KnownUnits<'a, R, U> {
     /// Units in the order of their offsets, as a section has them. A reference by an offset of it
-    /// is followed by a bisection.
+    /// is followed by a bisection. One into a unit whose declarations aren't kept yet is out of
+    /// memory: once they are, it is followed.
     pub fn in_order(units: &'a [U], supplement_units: &'a [Unit<R>]) -> Self
         requires units { AreInOrder (map U.facts units.now) }
         requires supplement { AreInOrder supplement_units.now }
@@ -58,7 +59,7 @@ impl<'a, R: Reader, U: HasUnit<R>> KnownUnits<'a, R, U> {
         holder: &HoldingUnit<'a, R>,
         offset: DebugInfoOffset<R::Offset>,
     ) -> Result<ReferredEntry<'a, R>, Error>
-        ensures { Returns result
+        ensures { ReturnsOrNoMemory result
             (entry_among holder.now.file holder.now.unit.file (units_in holder.now.file self.now)
             (R.Offset.count offset.0)) }
     {
@@ -78,7 +79,7 @@ impl<'a, R: Reader, U: HasUnit<R>> KnownUnits<'a, R, U> {
         holder: &HoldingUnit<'a, R>,
         offset: DebugInfoOffset<R::Offset>,
     ) -> Result<Option<ReferredEntry<'a, R>>, Error>
-        ensures { ReturnsAs (option_map (λ e. e)) result
+        ensures { ReturnsAsOrNoMemory (option_map (λ e. e)) result
             (entry_in_supplement self.now (R.Offset.count offset.0)
             (supplement holder.now.unit.file)) }
     {
@@ -99,7 +100,7 @@ impl<'a, R: Reader, U: HasUnit<R>> KnownUnits<'a, R, U> {
         holder: &HoldingUnit<'a, R>,
         value: &AttributeValue<R>,
     ) -> Result<Option<ReferredEntry<'a, R>>, Error>
-        ensures { ReturnsAs (option_map (λ e. e)) result
+        ensures { ReturnsAsOrNoMemory (option_map (λ e. e)) result
             (referred_entry self.now holder.now (raw_value_of R.view R.Offset.count value.now)) }
     {
         match value {

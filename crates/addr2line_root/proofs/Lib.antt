@@ -4,6 +4,9 @@ mod LineProgramRows
 mod BuilderRows
 mod FileTextLemmas
 mod RootLemmas
+pub mod KeptUnits
+pub mod ReadUnits
+mod MainUnitLemmas
 mod HeaderUnits
 mod SharedPrograms
 mod SharedLines

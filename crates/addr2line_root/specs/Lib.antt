@@ -3,9 +3,12 @@ pub use Rattle.addr2line_ranges.specs.ProbedLists
 pub use Rattle.addr2line_ranges.specs.Searches
 pub use Rattle.addr2line_ranges.specs.CachedFiles
 pub use Rattle.addr2line_ranges.specs.ArangeIndexes
+pub use Rattle.gimli_dwarf.specs.BareUnits
+pub use Rattle.gimli_dwarf.specs.WholeUnits
 pub mod LineProgramRuns
 pub mod FileTextLists
 pub mod CountedRuns
 pub mod LastPrograms
 pub mod LastRanges
 pub mod RootRanges
+pub mod MainUnits

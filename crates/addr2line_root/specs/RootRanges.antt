@@ -5,9 +5,18 @@ use Rattle.addr2line_ranges.specs.Range.{Range}
 use Rattle.addr2line_ranges.specs.UnitFacts.{UnitInFile}
 use Rattle.addr2line_ranges.specs.LineIndexes.{CountedLines, counted_lines}
 use Rattle.addr2line_ranges.specs.UnitLines.{lines_of_unit}
+use Rattle.addr2line_ranges.specs.AttributeValues.{RawAttribute}
+use Rattle.addr2line_ranges.specs.Results.{◌>>=◌}
+use Rattle.addr2line_ranges.specs.LastFacts.{facts_of, declared_by}
 use Rattle.addr2line_ranges.specs.UnitRanges.{ranges_of_lines}
 use Rattle.addr2line_ranges.specs.Contexts.{ContextUnit}
 use Rattle.addr2line_root.specs.CountedRuns.{CountedUnit, after_run}
+
+-- the ranges that a root declares by these attributes
+abbrev pub ranges_declared : UnitInFile → List RawAttribute → Result (List Range) Error
+ranges_declared u attributes = do
+  last ← facts_of u attributes
+  declared_by u last
 
 -- ranges, and the lines of the unit where its program was run for them
 pub record RootRanges : Type 0 where

@@ -1,11 +1,14 @@
 //! A unit, and how often its line number program was run.
 
-ghost use Rattle.std.specs.Prelude.{◌≡◌};
+ghost use Rattle.std.specs.Prelude.{◌≡◌, OnOk, OnErr, IfErr};
+ghost use Rattle.addr2line_ranges.specs.Error.TheVariants.{Memory};
+ghost use Rattle.gimli_dwarf.specs.WholeUnits.{IsBareIn, whole_unit};
 ghost use Rattle.addr2line_root.specs.CountedRuns.{after_run};
 
 use crate::owned_unit::OwnedUnit;
 use addr2line_index::Tally;
-use addr2line_ranges::{Reader, UnitRef};
+use addr2line_ranges::{Error, Reader, UnitRef};
+use std::alloc::Global;
 use std::marker::Model;
 use std::mem::size_of;
 
@@ -81,6 +84,16 @@ impl<R: Reader> CountedUnit<R> {
         ensures { result.now ≡ self.now.runs }
     {
         &self.runs
+    }
+
+    // Makes a bare unit whole. The only refusal is out of memory, and then it is bare still.
+    pub(crate) fn make_whole(&mut self, alloc: Global) -> Result<(), Error>
+        requires { IsBareIn self.old.unit.file self.old.unit.facts }
+        ensures ok { OnOk result (self.new ≡ record self.old { unit = whole_unit self.old.unit }) }
+        ensures err { OnErr result (self.new ≡ self.old) }
+        ensures refusal { IfErr result (λ e. e ≡ Memory) }
+    {
+        self.unit.make_whole(alloc)
     }
 
     // Counts a run of the program, if there is one.

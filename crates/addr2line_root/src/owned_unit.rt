@@ -1,8 +1,10 @@
 //! A unit with the sections of its file.
 
-ghost use Rattle.std.specs.Prelude.{◌≡◌, Ok};
+ghost use Rattle.std.specs.Prelude.{◌≡◌, Ok, OnOk, OnErr, IfErr};
 ghost use Rattle.addr2line_ranges.specs.Calls.{ReturnsOrNoMemory};
+ghost use Rattle.addr2line_ranges.specs.Error.TheVariants.{Memory};
 ghost use Rattle.addr2line_ranges.specs.UnitFacts.{in_file};
+ghost use Rattle.gimli_dwarf.specs.WholeUnits.{IsBareIn, whole_unit};
 
 use addr2line_ranges::{Dwarf, Error, Reader, Unit, UnitRef};
 use std::alloc::Global;
@@ -56,6 +58,18 @@ impl<R: Reader> OwnedUnit<R> {
         ensures { result.now ≡ self.now.facts }
     {
         self.unit.as_ref()
+    }
+
+    // Makes a bare unit whole. The only refusal is out of memory, and then it is bare still.
+    pub(crate) fn make_whole(&mut self, alloc: Global) -> Result<(), Error>
+        requires { IsBareIn self.old.file self.old.facts }
+        ensures ok { OnOk result (self.new ≡ whole_unit self.old) }
+        ensures err { OnErr result (self.new ≡ self.old) }
+        ensures refusal { IfErr result (λ e. e ≡ Memory) }
+    {
+        let sections = self.sections.as_ref();
+        let unit = self.unit.as_mut();
+        unit.make_whole(alloc, sections)
     }
 
     /// The same, borrowed.

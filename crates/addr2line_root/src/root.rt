@@ -10,9 +10,9 @@ ghost use Rattle.addr2line_root.specs.LastPrograms.{HasHeaderInFile};
 ghost use Rattle.addr2line_root.specs.LastRanges.{AreLastOf, AreLastFor, maker_of, counter_of};
 ghost use Rattle.addr2line_root.specs.RootRanges.{RunsForRanges, unit_with};
 
-use crate::counted_unit::CountedUnit;
 use crate::language::language_of;
 use crate::last_ranges::LastRanges;
+use crate::main_unit::MainUnit;
 use crate::partial::is_partial;
 use crate::ranges::{RootRanges, ranges_of_attributes};
 use crate::unit_lines::UnitLines;
@@ -47,31 +47,33 @@ impl Model for UnitRoot {
 }
 
 impl UnitRoot {
-    /// What the root of a unit says; nothing of a unit that others import. The unit's line number
-    /// program is run only where the root declares no ranges. Refused is an attribute of the root,
-    /// or else its range list. A list or a program that is the last one of the file isn't read or
-    /// run again. The counter counts looks at the lines; no other one is made.
+    /// What the root of a unit says; nothing of a unit that others import. The unit is made whole,
+    /// and its line number program run, only where the root declares no ranges. Refused is an
+    /// attribute of the root, or else its range list. A list or a program that is the last one of
+    /// the file isn't read or run again. The counter counts looks at the lines; no other one is
+    /// made.
     pub fn read<R: Reader>(
         alloc: Global,
-        unit: &mut CountedUnit<R>,
+        unit: &mut MainUnit<R>,
         root: &DebuggingInformationEntry<R>,
         aranges: &ArangeIndex,
         last: &mut LastRanges<R>,
         probes: &Probes,
     ) -> Result<Self, Error>
-        requires index { IsIndexOf unit.old.unit.file aranges.now }
-        requires last { AreLastFor unit.old.unit last.old }
+        requires index { IsIndexOf unit.old.counted.unit.file aranges.now }
+        requires last { AreLastFor unit.old.counted.unit last.old }
         requires counter { probes.now.name ≡ counter_of last.old }
-        ensures unit { ReturnsAsOrNoMemory (unit_with unit.old.unit) result
-            (unit_of_entry unit.old.unit (lines_of_unit unit.old.unit)
+        ensures unit { ReturnsAsOrNoMemory (unit_with unit.old.counted.unit) result
+            (unit_of_entry unit.old.counted.unit (lines_of_unit unit.old.counted.unit)
             (entry_of R.view R.Offset.count root.now)) }
         ensures lines { IfOk result
-            (λ r. RunsForRanges probes.now.name r.ranges r.lines unit.old unit.new) }
-        ensures last { HasHeaderInFile unit.old.unit → AreLastOf unit.old.unit.file last.new }
+            (λ r. RunsForRanges probes.now.name r.ranges r.lines
+            unit.old.counted unit.new.counted) }
+        ensures last { HasHeaderInFile unit.old.counted.unit
+            → AreLastOf unit.old.counted.unit.file last.new }
         ensures counters { maker_of last.new ≡ maker_of last.old }
     {
-        let facts = unit.unit().unit();
-        if is_partial(&facts.header, root) {
+        if is_partial(unit.header(), root) {
             return Ok(UnitRoot {
                 ranges: Rc::new(alloc, Vec::new(alloc))?,
                 language: None,
@@ -84,21 +86,23 @@ impl UnitRoot {
     // What the attributes of a root say.
     fn of_root<R: Reader>(
         alloc: Global,
-        unit: &mut CountedUnit<R>,
+        unit: &mut MainUnit<R>,
         aranges: &ArangeIndex,
         last: &mut LastRanges<R>,
         probes: &Probes,
         attributes: &[Attribute<R>],
     ) -> Result<Self, Error>
-        requires index { IsIndexOf unit.old.unit.file aranges.now }
-        requires last { AreLastFor unit.old.unit last.old }
+        requires index { IsIndexOf unit.old.counted.unit.file aranges.now }
+        requires last { AreLastFor unit.old.counted.unit last.old }
         requires counter { probes.now.name ≡ counter_of last.old }
-        ensures unit { ReturnsAsOrNoMemory (unit_with unit.old.unit) result
-            (unit_of_root unit.old.unit (lines_of_unit unit.old.unit)
+        ensures unit { ReturnsAsOrNoMemory (unit_with unit.old.counted.unit) result
+            (unit_of_root unit.old.counted.unit (lines_of_unit unit.old.counted.unit)
             (raw_attributes R.view R.Offset.count attributes.now)) }
         ensures lines { IfOk result
-            (λ r. RunsForRanges probes.now.name r.ranges r.lines unit.old unit.new) }
-        ensures last { HasHeaderInFile unit.old.unit → AreLastOf unit.old.unit.file last.new }
+            (λ r. RunsForRanges probes.now.name r.ranges r.lines
+            unit.old.counted unit.new.counted) }
+        ensures last { HasHeaderInFile unit.old.counted.unit
+            → AreLastOf unit.old.counted.unit.file last.new }
         ensures counters { maker_of last.new ≡ maker_of last.old }
     {
         let found = ranges_of_attributes(alloc, unit, aranges, last, probes, attributes)?;

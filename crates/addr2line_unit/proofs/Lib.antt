@@ -4,6 +4,7 @@ pub use Rattle.addr2line_functions.proofs.PendingLoads
 pub use Rattle.addr2line_functions.proofs.RangeNumbers
 pub use Rattle.addr2line_functions.proofs.NumberedCalls
 pub mod KeptParses
+mod CodeUnits
 pub mod KeptWalks
 pub mod FunctionParses
 pub mod NewUnits

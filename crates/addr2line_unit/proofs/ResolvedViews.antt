@@ -4,8 +4,12 @@ use Rattle.std.proofs.lemmas.List.{length-map}
 use Rattle.addr2line_functions.specs.Error.{Error}
 use Rattle.addr2line_functions.specs.Error.TheVariants.{Memory}
 use Rattle.addr2line_functions.specs.Calls.{ReturnsAsOrNoMemory}
+use Rattle.addr2line_functions.specs.Range.{Range}
+use Rattle.addr2line_functions.specs.UnitLines.{lines_of_unit}
+use Rattle.addr2line_functions.specs.FirstAnswers.{FirstAnswer}
 use Rattle.addr2line_functions.specs.InlinedCalls.{FunctionCalls}
 use Rattle.addr2line_functions.specs.CountedFunctions.{CountedFunctions, CountedCalls}
+use Rattle.addr2line_root.specs.CountedRuns.{CountedUnit}
 use Rattle.addr2line_root.specs.ProbedLists.{ProbeCount}
 use Rattle.addr2line_unit.specs.KeptFunctions.{KeptFunctions, plain_functions, plain_calls, count_of_functions, function_count, calls_of_none, functions_read, calls_read}
 use Rattle.addr2line_unit.specs.ResolvedUnits.{AnsweredUnit, ResolvedUnit, functions_of, with_functions, with_calls}
@@ -22,6 +26,29 @@ seen v keeps_lines runs k probes chain = record {
   probes = probes;
   chain = chain;
 }
+
+-- the same of a unit with its counter
+abbrev pub seen_unit : CountedUnit → List Range → Option ℕ → Option FirstAnswer → Bool → KeptFunctions → ProbeCount
+    → List ℕ → ResolvedUnit
+seen_unit u ranges language first keeps_lines k probes chain =
+    seen (record {
+      file = u.unit.file;
+      unit = record {
+        facts = u.unit.facts;
+        ranges = ranges;
+        language = language;
+        lines = lines_of_unit u.unit;
+      };
+      first = first;
+    }) keeps_lines u.runs.name k probes chain
+
+-- it is seen so whether it is kept whole or not
+pub same_seen : (u w : CountedUnit) (ranges : List Range) (language : Option ℕ) (first : Option FirstAnswer)
+    (keeps_lines : Bool) (k : KeptFunctions) (probes : ProbeCount) (chain : List ℕ) (v : ResolvedUnit) → w ≡ u
+    → seen_unit u ranges language first keeps_lines k probes chain ≡ v
+    → seen_unit w ranges language first keeps_lines k probes chain ≡ v
+same_seen u w ranges language first keeps_lines k probes chain v same view =
+    ap (λ (x : CountedUnit). seen_unit x ranges language first keeps_lines k probes chain) same ∙ view
 
 -- with other calls
 abbrev with_all_calls : AnsweredUnit → Bool → ℕ → Bool → ProbeCount → List ℕ

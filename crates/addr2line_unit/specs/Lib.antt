@@ -53,6 +53,7 @@ pub use Rattle.addr2line_root.specs.ArangeIndexes
 pub use Rattle.addr2line_root.specs.CachedFiles
 pub use Rattle.addr2line_root.specs.CountedRuns
 pub use Rattle.addr2line_root.specs.LineIndexes
+pub use Rattle.addr2line_root.specs.MainUnits
 pub use Rattle.addr2line_root.specs.ProbedLists
 pub use Rattle.addr2line_root.specs.Searches
 pub mod KeptFunctions

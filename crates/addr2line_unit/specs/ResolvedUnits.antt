@@ -21,7 +21,8 @@ use Rattle.addr2line_functions.specs.Contexts.{ContextUnit, context_unit, facts_
 use Rattle.addr2line_functions.specs.Lookups.{split_or_itself}
 use Rattle.addr2line_functions.specs.EntryReferences.{HoldingUnit}
 use Rattle.addr2line_functions.specs.ContextNames.{holding_unit}
-use Rattle.addr2line_root.specs.CountedRuns.{RunCount, CountedUnit, runs_for_lines}
+use Rattle.addr2line_root.specs.CountedRuns.{RunCount, runs_for_lines}
+use Rattle.addr2line_root.specs.MainUnits.{MainUnit}
 use Rattle.addr2line_root.specs.LineIndexes.{CountedLines, counted_lines, place_probes}
 use Rattle.addr2line_root.specs.ProbedLists.{ProbeCount}
 use Rattle.addr2line_unit.specs.KeptFunctions.{KeptFunctions, AreCountedBy, plain_functions, function_count, count_of_functions, calls_of_none, kept_at}
@@ -160,14 +161,15 @@ pub record KeepsFunctions (u : UnitInFile) (load : Result (Option SplitLoad) Err
   pub are_counted : AreCountedBy counter k
 
 -- What is kept of a unit is its load, its lines with this counter, for which its program was run
--- once, and its functions with the same counter.
-pub record KeepsParses (u : CountedUnit) (load : Result (Option SplitLoad) Error)
+-- once, and its functions with the same counter; and a unit of which functions are kept is whole.
+pub record KeepsParses (u : MainUnit) (load : Result (Option SplitLoad) Error)
     (first : Option FirstAnswer) (lines : Option (Result CountedLines Error))
     (functions : KeptFunctions) (counter : ℕ) : Type 0 where
-  pub load_is : load ≡ load_of u.unit
-  pub lines_are : IsKeptOf (counted_lines counter (lines_of_unit u.unit)) lines
-  pub runs_are : u.runs.count ≡ runs_if_kept u.unit.facts (is_some lines)
-  pub functions_are : KeepsFunctions u.unit load first functions counter
+  pub load_is : load ≡ load_of u.counted.unit
+  pub lines_are : IsKeptOf (counted_lines counter (lines_of_unit u.counted.unit)) lines
+  pub runs_are : u.counted.runs.count ≡ runs_if_kept u.counted.unit.facts (is_some lines)
+  pub functions_are : KeepsFunctions u.counted.unit load first functions counter
+  pub is_whole : is_some functions.functions ≡ true → u.is_whole ≡ true
 
 -- ---- places
 

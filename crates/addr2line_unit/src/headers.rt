@@ -14,7 +14,7 @@ use crate::unit::ResUnit;
 use addr2line_functions::{
     DebuggingInformationEntry, Dwarf, Error, Reader, UnitHeader, UnitType, share,
 };
-use addr2line_root::{ArangeIndex, LastRanges, OwnedUnit};
+use addr2line_root::{ArangeIndex, LastRanges, MainUnit};
 use std::alloc::Global;
 use std::rc::Rc;
 
@@ -26,19 +26,21 @@ fn code_unit<R: Reader>(
     sections: &Rc<Dwarf<R>>,
     header: UnitHeader<R>,
     entry: &mut DebuggingInformationEntry<R>,
-) -> Result<Option<OwnedUnit<R>>, Error>
-    ensures unit { ReturnsOrNoMemory result
+) -> Result<Option<MainUnit<R>>, Error>
+    ensures unit { ReturnsAsOrNoMemory (option_map (λ u. u.counted.unit)) result
         (Ok (option_map (in_file sections.now.value.file)
         (facts_of_code_unit sections.now.value.file header))) }
     ensures root { IfOk result (λ found. IfSome found
-        (λ u. HasRoot u (entry_of R.view R.Offset.count entry.new))) }
-    ensures header { IfOk result (λ found. IfSome found HasHeaderInFile) }
+        (λ u. HasRoot u.counted.unit (entry_of R.view R.Offset.count entry.new))) }
+    ensures header { IfOk result (λ found. IfSome found
+        (λ u. HasHeaderInFile u.counted.unit)) }
+    ensures runs { IfOk result (λ found. IfSome found (λ u. u.counted.runs.count ≡ 0)) }
 {
     if is_of_types(&header) {
         return Ok(None);
     }
-    match sections.as_ref().unit_with_root(alloc, header, entry) {
-        Ok(unit) => Ok(Some(OwnedUnit::new(alloc, share(sections)?, unit)?)),
+    match sections.as_ref().bare_unit_with_root(alloc, header, entry) {
+        Ok(unit) => Ok(Some(MainUnit::new(alloc, share(sections)?, unit)?)),
         Err(Error::Memory) => Err(Error::Memory),
         Err(_) => Ok(None),
     }
@@ -75,21 +77,22 @@ fn push_unit<R: Reader>(
     alloc: Global,
     aranges: &ArangeIndex,
     last: &mut LastRanges<R>,
-    main: OwnedUnit<R>,
+    main: MainUnit<R>,
     entry: &DebuggingInformationEntry<R>,
     units: &mut Vec<ResUnit<R>>,
 ) -> Result<(), Error>
-    requires index { IsIndexOf main.file aranges.now }
-    requires last { AreLastOf main.file last.old }
-    requires root { HasRoot main (entry_of R.view R.Offset.count entry.now) }
-    requires header { HasHeaderInFile main }
+    requires index { IsIndexOf main.counted.unit.file aranges.now }
+    requires last { AreLastOf main.counted.unit.file last.old }
+    requires root { HasRoot main.counted.unit (entry_of R.view R.Offset.count entry.now) }
+    requires header { HasHeaderInFile main.counted.unit }
+    requires runs { main.counted.runs.count ≡ 0 }
     ensures units { ReturnsAsOrNoMemory (λ _. map value_of_unit units.new.items) result
-        (with_new_unit main (map value_of_unit units.old.items)) }
+        (with_new_unit main.counted.unit (map value_of_unit units.old.items)) }
     ensures lines { OnOk result
         (RunForRangesAlone units.old.items → RunForRangesAlone units.new.items) }
     ensures functions { OnOk result
         (KeepNoFunctions units.old.items → KeepNoFunctions units.new.items) }
-    ensures last { AreLastOf main.file last.new }
+    ensures last { AreLastOf main.counted.unit.file last.new }
 {
     let unit = ResUnit::read(alloc, main, entry, aranges, last)?;
     units.push(unit)?;

@@ -5,7 +5,7 @@ ghost use Rattle.addr2line_functions.specs.Calls.{ReturnsAs, ReturnsAsOrNoMemory
 ghost use Rattle.addr2line_functions.specs.FirstAnswers.{split_path, load_of_id, load_of};
 
 use addr2line_functions::{Dwarf, DwoId, Error, Reader, UnitRef, share};
-use addr2line_root::{OwnedUnit, copy_of};
+use addr2line_root::{MainUnit, OwnedUnit, copy_of};
 use std::alloc::Global;
 use std::marker::Model;
 use std::rc::Rc;
@@ -109,10 +109,13 @@ impl<R: Reader> Model for KeptLoad<R> {
 }
 
 impl<R: Reader> KeptLoad<R> {
-    /// That of a unit. The only refusal is out of memory.
-    pub fn read(alloc: Global, unit: &OwnedUnit<R>) -> Result<Self, Error>
-        ensures { ReturnsOrNoMemory result (Ok (load_of unit.now)) }
+    /// That of a unit; none where it isn't whole. The only refusal is out of memory.
+    pub fn read(alloc: Global, unit: &MainUnit<R>) -> Result<Self, Error>
+        ensures { ReturnsOrNoMemory result (Ok (load_of unit.now.counted.unit)) }
     {
+        let Some(unit) = unit.whole() else {
+            return Ok(KeptLoad { load: Ok(None) });
+        };
         let load = match load_of(alloc, unit) {
             Ok(Some(load)) => Ok(Some(Box::new(alloc, load)?)),
             Ok(None) => Ok(None),

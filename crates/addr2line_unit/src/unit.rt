@@ -3,8 +3,9 @@
 ghost use Rattle.std.specs.Prelude.{◌≡◌, ◌≢◌, ◌<◌, true, length, Some, None, Ok, Err, IfSome, MatchOption, IfOk, OnOk, OnErr, IfErr, option_map, option_and_then, is_some};
 ghost use Rattle.addr2line_functions.specs.Calls.{Returns, ReturnsAs, ReturnsAsOrNoMemory, ReturnsOrNoMemory};
 ghost use Rattle.addr2line_functions.specs.Error.TheVariants.{Memory};
-ghost use Rattle.addr2line_functions.specs.Results.{and_then};
+ghost use Rattle.addr2line_functions.specs.Results.{and_then, refusal_of};
 ghost use Rattle.addr2line_functions.specs.EntryViews.{entry_of};
+ghost use Rattle.addr2line_functions.specs.FirstAnswers.{load_of};
 ghost use Rattle.addr2line_functions.specs.BorrowedFrames.{frames_left};
 ghost use Rattle.addr2line_functions.specs.BorrowedLocations.{location_value};
 ghost use Rattle.addr2line_root.specs.ArangeIndexes.{IsIndexOf};
@@ -25,10 +26,10 @@ use crate::unit_functions::UnitFunctions;
 use addr2line_functions::{
     DebugFile, DebuggingInformationEntry, DwLang, Error, FrameIter, FunctionCalls, Functions,
     HasUnit, HoldingUnit, LineCursor, LineIndex, Location, Names, Probes, Range, Reader,
-    RowStretch, Unit, calls_of_function, functions_of_unit,
+    RowStretch, Unit, UnitHeader, calls_of_function, functions_of_unit,
 };
 use addr2line_root::{
-    ArangeIndex, CountedUnit, LastRanges, LineRow, OwnedUnit, Runs, UnitLines, UnitRoot,
+    ArangeIndex, LastRanges, LineRow, MainUnit, OwnedUnit, Runs, UnitLines, UnitRoot,
 };
 use std::alloc::Global;
 use std::marker::Model;
@@ -36,10 +37,10 @@ use std::rc::Rc;
 
 /// A unit of a context: the ranges that it covers, its language, the load of its split part and the
 /// first answer to it. Its lines, its functions and their calls are read when they are asked for,
-/// and kept, refusals too.
+/// and kept, refusals too. Before that the unit is made whole, unless it is.
 pub struct ResUnit<R: Reader> {
     /// With the counter of the runs of its line number program.
-    main: CountedUnit<R>,
+    main: MainUnit<R>,
     /// Shared with the units before and after it that have the same range list.
     ranges: Rc<Vec<Range>>,
     language: Option<DwLang>,
@@ -80,17 +81,17 @@ impl<R: Reader> Model for ResUnit<R> {
 
     ghost view = { λ u. record {
       value = record {
-        file = u.main.unit.file;
+        file = u.main.counted.unit.file;
         unit = record {
-          facts = u.main.unit.facts;
+          facts = u.main.counted.unit.facts;
           ranges = u.ranges.value.items;
           language = option_map (λ l. l.0) u.language;
-          lines = lines_of_unit u.main.unit;
+          lines = lines_of_unit u.main.counted.unit;
         };
         first = u.first;
       };
       keeps_lines = is_some u.lines;
-      runs = u.main.runs.name;
+      runs = u.main.counted.runs.name;
       keeps_functions = is_some u.functions.functions;
       calls = map (option_map plain_calls) u.functions.calls;
       probes = u.probes;
@@ -192,6 +193,30 @@ fn unit_under<'a, R: Reader>(
     }
 }
 
+// Whether the first answer to a load is a refusal, if there was one.
+fn check_answer<R: Reader>(first: &Option<Result<Option<OwnedUnit<R>>, Error>>) -> Result<(), Error>
+    ensures { Returns result (refusal_of (answer_or_none first.now)) }
+{
+    match first {
+        Some(Err(error)) => Err(*error),
+        Some(Ok(_)) | None => Ok(()),
+    }
+}
+
+// The same of a unit with this load, if it has one.
+fn check_load<R: Reader>(
+    load: Option<&SplitDwarfLoad<R>>,
+    first: &Option<Result<Option<OwnedUnit<R>>, Error>>,
+) -> Result<(), Error>
+    ensures { Returns result
+        (refusal_of (decided (Ok (option_map (λ l. l.now) load.entry)) first.now)) }
+{
+    match load {
+        Some(_) => check_answer(first),
+        None => Ok(()),
+    }
+}
+
 impl<R: Reader> ResUnit<R> {
     /// The unit, with what its root says. Its line number program is run only where its ranges are
     /// those of its lines, which are then kept. Refused by its root or its ranges. A range list or
@@ -199,40 +224,43 @@ impl<R: Reader> ResUnit<R> {
     /// program are shared where the unit's are the same. One counter is made, that of the unit.
     pub fn read(
         alloc: Global,
-        main: OwnedUnit<R>,
+        main: MainUnit<R>,
         entry: &DebuggingInformationEntry<R>,
         aranges: &ArangeIndex,
         last: &mut LastRanges<R>,
     ) -> Result<Self, Error>
-        requires index { IsIndexOf main.file aranges.now }
-        requires last { AreLastFor main last.old }
-        requires root { HasRoot main (entry_of R.view R.Offset.count entry.now) }
-        ensures unit { ReturnsAsOrNoMemory (λ u. u.value) result (new_unit main) }
+        requires index { IsIndexOf main.counted.unit.file aranges.now }
+        requires last { AreLastFor main.counted.unit last.old }
+        requires root { HasRoot main.counted.unit (entry_of R.view R.Offset.count entry.now) }
+        requires runs { main.counted.runs.count ≡ 0 }
+        ensures unit { ReturnsAsOrNoMemory (λ u. u.value) result (new_unit main.counted.unit) }
         ensures lines { IfOk result RunsForRangesAlone }
         ensures functions { IfOk result KeepsNoFunctions }
-        ensures last { HasHeaderInFile main → AreLastOf main.file last.new }
+        ensures last { HasHeaderInFile main.counted.unit
+            → AreLastOf main.counted.unit.file last.new }
         ensures counters { maker_of last.new ≡ after_counter (maker_of last.old) }
     {
+        let mut main = main;
         let probes = last.counter();
-        let mut unit = CountedUnit::new(main);
-        let root = UnitRoot::read(alloc, &mut unit, entry, aranges, last, &probes)?;
-        ResUnit::of_root(alloc, unit, root, probes)
+        let root = UnitRoot::read(alloc, &mut main, entry, aranges, last, &probes)?;
+        ResUnit::of_root(alloc, main, root, probes)
     }
 
     // The unit with what its root says, what was run for that, and the counter of looks at it.
     fn of_root(
         alloc: Global,
-        main: CountedUnit<R>,
+        main: MainUnit<R>,
         root: UnitRoot,
         probes: Probes,
     ) -> Result<Self, Error>
-        requires { RunsForRanges probes.name root.ranges root.lines (without_runs main) main }
+        requires { RunsForRanges probes.name root.ranges root.lines (without_runs main.counted)
+            main.counted }
         ensures unit { ReturnsAsOrNoMemory (λ u. u.value) result
-            (Ok (without_answer main.unit.file (unit_with main.unit root))) }
+            (Ok (without_answer main.counted.unit.file (unit_with main.counted.unit root))) }
         ensures lines { IfOk result RunsForRangesAlone }
         ensures functions { IfOk result KeepsNoFunctions }
     {
-        let load = KeptLoad::read(alloc, main.unit())?;
+        let load = KeptLoad::read(alloc, &main)?;
         let UnitRoot {
             ranges,
             language,
@@ -252,11 +280,21 @@ impl<R: Reader> ResUnit<R> {
         })
     }
 
-    /// The unit of the main file.
-    pub fn main(&self) -> &OwnedUnit<R>
-        ensures { result.now ≡ main_unit self.now.value }
+    /// Makes the unit whole, unless it is: reads again its declarations and the header of its line
+    /// number program. The only refusal is out of memory.
+    pub fn make_whole(&mut self, alloc: Global) -> Result<(), Error>
+        ensures unit { self.new ≡ self.old }
+        ensures refusal { IfErr result (λ e. e ≡ Memory) }
     {
-        self.main.unit()
+        self.main.make_whole(alloc)
+    }
+
+    /// The unit of the main file, if it is whole, as each is that has a split part.
+    pub fn main(&self) -> Option<&OwnedUnit<R>>
+        ensures { MatchOption result (load_of (main_unit self.now.value) ≡ Ok None)
+            (λ u. u.now ≡ main_unit self.now.value) }
+    {
+        self.main.whole()
     }
 
     /// The ranges that the unit covers, in the order in which its entries or sections list them.
@@ -294,7 +332,7 @@ impl<R: Reader> ResUnit<R> {
         if self.lines.is_read() {
             return Ok(());
         }
-        let lines = UnitLines::run(alloc, &mut self.main, &self.probes)?;
+        let lines = self.main.read_lines(alloc, &self.probes)?;
         self.lines.keep(lines)
     }
 
@@ -411,13 +449,29 @@ impl<R: Reader> ResUnit<R> {
     }
 
     /// The unit that has the functions, with the file that it is in: the split unit that the first
-    /// answer gave, or the unit itself, or the refusal of the load or the answer.
+    /// answer gave, or the unit itself, or the refusal of the load or the answer. Before the
+    /// functions are read the unit may not be whole, and then this is out of memory.
     pub fn functions_unit(&self) -> Result<HoldingUnit<'_, R>, Error>
-        ensures { Returns result
+        ensures unit { ReturnsOrNoMemory result
+            (unit_of_functions (main_unit self.now.value) (first_answer self.now.value)) }
+        ensures kept { self.now.keeps_functions ≡ true → Returns result
             (unit_of_functions (main_unit self.now.value) (first_answer self.now.value)) }
     {
+        let Some(main) = self.main.whole() else {
+            return Err(Error::Memory);
+        };
         match self.load.load() {
-            Ok(load) => unit_decided(self.main.unit(), load, &self.first),
+            Ok(load) => unit_decided(main, load, &self.first),
+            Err(error) => Err(error),
+        }
+    }
+
+    /// Whether what decides the unit is a refusal: of its load, or the first answer to it.
+    pub fn check_decided(&self) -> Result<(), Error>
+        ensures { Returns result (refusal_of (first_answer self.now.value)) }
+    {
+        match self.load.load() {
+            Ok(load) => check_load(load, &self.first),
             Err(error) => Err(error),
         }
     }
@@ -447,6 +501,7 @@ impl<R: Reader> ResUnit<R> {
         if self.functions.is_read() {
             return Ok(());
         }
+        self.main.make_whole(alloc)?;
         let functions = self.parse_functions(alloc);
         self.functions.keep(alloc, functions)
     }
@@ -568,8 +623,12 @@ impl<R: Reader> ResUnit<R> {
 impl<R: Reader> HasUnit<R> for ResUnit<R> {
     ghost facts = { λ u. u.value.unit.facts };
 
-    fn unit(&self) -> &Unit<R> {
-        let main = self.main.unit();
-        main.unit()
+    fn header(&self) -> &UnitHeader<R> {
+        self.main.header()
+    }
+
+    fn unit(&self) -> Option<&Unit<R>> {
+        let main = self.main.whole()?;
+        Some(main.unit())
     }
 }

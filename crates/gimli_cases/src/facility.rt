@@ -73,6 +73,7 @@ const OPERATIONS: [(Facility, &[&str]); 25] = [
             "check_abbreviations",
             "same_abbreviation",
             "find_abbreviation",
+            "table_of_one",
             "string",
             "line_string",
             "string_offset",

@@ -6,8 +6,8 @@ use gimli_core::{
     Abbreviation, Abbreviations, AddrHeader, AttributeSpecification, DebugAbbrev,
     DebugAbbrevOffset, DebugAddr, DebugAddrBase, DebugAddrIndex, DebugLineStr, DebugLineStrOffset,
     DebugLocListsBase, DebugRngListsBase, DebugStr, DebugStrOffset, DebugStrOffsets,
-    DebugStrOffsetsBase, DebugStrOffsetsIndex, DefaultBase, DwForm, DwarfFileType, Error, Reader,
-    ReaderOffset, Section,
+    DebugStrOffsetsBase, DebugStrOffsetsIndex, DefaultBase, DwForm, DwarfFileType, Error,
+    OwnedAbbreviation, Reader, ReaderOffset, Section,
 };
 use std::alloc::Global;
 
@@ -28,6 +28,7 @@ pub fn answer<R: Reader>(alloc: Global, case: &Case, sections: Sections<R>, out:
         "check_abbreviations" => check(alloc, case, &DebugAbbrev::from(section), out),
         "same_abbreviation" => same_abbreviation(alloc, section, sections.second, out),
         "find_abbreviation" => find_abbreviation(alloc, case, &DebugAbbrev::from(section), out),
+        "table_of_one" => table_of_one(alloc, case, &DebugAbbrev::from(section), out),
         "string" => string(case, &DebugStr::from(section), out),
         "line_string" => line_string(case, &DebugLineStr::from(section), out),
         "string_offset" => string_offset(case, &DebugStrOffsets::from(section), out),
@@ -129,14 +130,31 @@ fn find_abbreviation<R: Reader>(
     section: &DebugAbbrev<R>,
     out: &mut Answer,
 ) {
-    let found = match case.offset() {
-        Ok(offset) => section.find_abbreviation(alloc, DebugAbbrevOffset(offset), case.index),
-        Err(error) => Err(error),
-    };
-    match found {
+    match found(alloc, case, section) {
         Ok(Some(found)) => declaration(&found.as_abbreviation(), out),
         Ok(None) => out.text("none"),
         Err(error) => out.refuse(error),
+    }
+}
+
+// The table of that declaration alone, or of none.
+fn table_of_one<R: Reader>(alloc: Global, case: &Case, section: &DebugAbbrev<R>, out: &mut Answer) {
+    let table = match found(alloc, case, section) {
+        Ok(Some(found)) => Abbreviations::of_one(alloc, found),
+        Ok(None) => Abbreviations::empty(alloc),
+        Err(error) => Err(error),
+    };
+    abbreviations(table, out);
+}
+
+fn found<R: Reader>(
+    alloc: Global,
+    case: &Case,
+    section: &DebugAbbrev<R>,
+) -> Result<Option<OwnedAbbreviation>, Error> {
+    match case.offset() {
+        Ok(offset) => section.find_abbreviation(alloc, DebugAbbrevOffset(offset), case.index),
+        Err(error) => Err(error),
     }
 }
 

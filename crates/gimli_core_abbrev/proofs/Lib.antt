@@ -5,9 +5,11 @@ pub use Rattle.gimli_core_readers.proofs.StepSizes
 pub use Rattle.gimli_core_readers.proofs.ViewCuts
 mod DeclarationSizes
 mod TableCollection
+mod ParsedDeclarations
 mod ExactRefusals
 mod ImplicitConstants
 mod ShortAttributes
+mod ShortRuns
 mod SkippedAttributes
 mod SkippedDeclarations
 mod DeclarationPlaces

@@ -1,10 +1,12 @@
 //! The declarations of an abbreviation table.
 
-ghost use Rattle.std.specs.Prelude.{◌≡◌, ◌==◌, ◌++◌, option_map, is_some, IfOk, IfErr, IfSome, IfNone, OnOk};
+ghost use Rattle.std.specs.Prelude.{◌≡◌, ◌≤◌, ◌*◌, ◌==◌, ℕ, List, ◌∷◌, ◌++◌, length, Some, option_map, is_some, IfOk, IfErr, IfSome, IfNone, OnOk};
 ghost use Rattle.std.specs.Option.{option_to_list};
 ghost use Rattle.gimli_core_readers.specs.Calls.{Reads, ReturnsAs, ReturnsAsOrNoMemory};
 ghost use Rattle.gimli_core_readers.specs.NumberParsers.{unsigned};
 ghost use Rattle.gimli_core_readers.specs.Parsers.{map_value};
+ghost use Rattle.gimli_core_readers.specs.Repetition.{prepend, listing_in};
+ghost use Rattle.gimli_core_readers.specs.View.{View, bytes_left, after};
 ghost use Rattle.gimli_core_abbrev.specs.TableParsing.{implicit_const_form, implicit_const, attribute, IsShortAttribute, attributes, children, declaration_of, declaration};
 ghost use Rattle.gimli_core_readers.specs.Error.TheVariants.{Memory};
 ghost use Rattle.gimli_core_abbrev.specs.AbbreviationViews.{attribute_view, added_view, Extends, with_attributes, nothing};
@@ -23,7 +25,7 @@ use gimli_core_readers::{
     DW_FORM_strx3, DW_FORM_strx4, DwAt, DwChildren, DwForm, DwTag, Encoding, EndianSlice,
     Endianity, Error, Reader,
 };
-use std::mem::size_of;
+use std::mem::{self, size_of};
 
 const _: () = prove!(size_of::<AttributeSpecification>() == 12);
 
@@ -162,6 +164,23 @@ fn parse_long_attribute<R: Reader>(input: &mut R) -> Result<Option<AttributeSpec
     Ok(Some(AttributeSpecification::new(name, form, implicit_const_value)))
 }
 
+// The attribute whose name and form are these bytes, if each is a number by itself and no value
+// follows them. Nothing at a pair of zeros.
+#[inline(always)]
+fn attribute_of_bytes(name: u8, form: u8) -> Option<AttributeSpecification>
+    ensures { IfSome result (λ a. (rest : List ℕ)
+        → IsShortAttribute (name ∷ form ∷ rest) (Some (attribute_view a))) }
+{
+    if name == 0 || name >= 128 || form == 0 || form >= 128 {
+        return None;
+    }
+    let (name, form) = (u16::from(name), u16::from(form));
+    if form == DW_FORM_implicit_const.0 {
+        return None;
+    }
+    Some(AttributeSpecification::new(DwAt(name), DwForm(form), None))
+}
+
 // The attribute in the first two bytes, or none at a pair of zeros. Nothing where it takes more
 // bytes, and where reading it is refused.
 #[inline(always)]
@@ -171,17 +190,11 @@ fn short_attribute(bytes: &[u8]) -> Option<Option<AttributeSpecification>>
     let [name, form, ..] = bytes else {
         return None;
     };
-    let (name, form) = (u16::from(*name), u16::from(*form));
-    if name >= 128 || form >= 128 {
-        return None;
+    if *name == 0 && *form == 0 {
+        return Some(None);
     }
-    if name == 0 {
-        return if form == 0 { Some(None) } else { None };
-    }
-    if form == 0 || form == DW_FORM_implicit_const.0 {
-        return None;
-    }
-    Some(Some(AttributeSpecification::new(DwAt(name), DwForm(form), None)))
+    let attribute = attribute_of_bytes(*name, *form)?;
+    Some(Some(attribute))
 }
 
 // Reads an attribute, or none at the pair of zeros that ends them.
@@ -214,8 +227,49 @@ fn push(
     Ok(attribute)
 }
 
+// Appends the attributes of two bytes each that come first, as many as there is room for, and
+// returns how many.
+#[inline(always)]
+fn push_short_run(bytes: &[u8], found: &mut Vec<AttributeSpecification>) -> usize
+    ensures extends { Extends found.old.items found.new.items }
+    ensures within { 2 * result ≤ length bytes.now }
+    ensures run { (v : View) → v.bytes ≡ bytes.now → listing_in bytes_left attribute v
+        ≡ prepend (added_view found.old.items found.new.items)
+        (listing_in bytes_left attribute (after (2 * result) v)) }
+{
+    let alloc = *found.allocator();
+    // in a variable, so that its length stays in a register
+    let mut list = mem::replace(found, Vec::new(alloc));
+    let most = (list.capacity() - list.len()).min(bytes.len() / 2);
+    let mut count = 0;
+    'pushing: while count < most {
+        let Some(attribute) = attribute_of_bytes(bytes[2 * count], bytes[2 * count + 1]) else {
+            break;
+        };
+        list.push_reserved(attribute);
+        count += 1;
+    }
+    *found = list;
+    count
+}
+
 // Reads an attribute from borrowed bytes, and appends it to a list. None at the pair of zeros that
 // ends them.
+#[inline(never)]
+fn push_long<E: Endianity>(
+    place: &mut EndianSlice<'_, E>,
+    found: &mut Vec<AttributeSpecification>,
+) -> Result<Option<AttributeSpecification>, Error>
+    ensures value { ReturnsAsOrNoMemory (λ a. (option_map attribute_view a, place.new)) result
+        (attribute place.old) }
+    ensures items { IfOk result (λ a. found.new.items
+        ≡ found.old.items ++ option_to_list a) }
+{
+    let attribute = parse_long_attribute(place)?;
+    Ok(push(attribute, found)?)
+}
+
+// The same, and the pair of zeros is found without a call.
 #[inline(always)]
 fn push_next<E: Endianity>(
     place: &mut EndianSlice<'_, E>,
@@ -226,18 +280,15 @@ fn push_next<E: Endianity>(
     ensures items { IfOk result (λ a. found.new.items
         ≡ found.old.items ++ option_to_list a) }
 {
-    if let Some(attribute) = short_attribute(place.slice()) {
+    if let Some(None) = short_attribute(place.slice()) {
         place.advance(2);
-        return Ok(push(attribute, found)?);
+        return Ok(None);
     }
-    let mut next = place.range_from(0..);
-    let attribute = parse_long_attribute(&mut next)?;
-    *place = next;
-    Ok(push(attribute, found)?)
+    push_long(place, found)
 }
 
 // Reads the attributes of a declaration, and appends them to a list.
-#[inline(never)]
+#[inline(always)]
 #[tactic(auto, unfolding(crate::specs::TableParsing::attributes))]
 fn parse_attributes<E: Endianity>(
     input: &mut EndianSlice<'_, E>,
@@ -248,10 +299,13 @@ fn parse_attributes<E: Endianity>(
         (attributes input.old) }
     ensures extends { OnOk result (Extends found.old.items found.new.items) }
 {
-    let mut place = input.range_from(0..);
-    'pushing: while push_next(&mut place, found)?.is_some() {}
-    *input = place;
-    Ok(())
+    'pushing: loop {
+        let count = push_short_run(input.slice(), found);
+        input.advance(2 * count);
+        if push_next(input, found)?.is_none() {
+            return Ok(());
+        }
+    }
 }
 
 // Skips the attributes of a declaration.

@@ -6,13 +6,15 @@ ghost use Rattle.std.specs.Iterator.{IsFinite, YieldsThen};
 ghost use Rattle.std.specs.Ordering.{nat_cmp};
 ghost use Rattle.std.specs.BTreeMap.{get, is_at};
 ghost use Rattle.std.specs.FinMap as finite_map;
-ghost use Rattle.gimli_core_readers.specs.Calls.{ReturnsAsOrNoMemory};
+ghost use Rattle.gimli_core_readers.specs.Calls.{ReturnsOrNoMemory, ReturnsAsOrNoMemory};
 ghost use Rattle.gimli_core_readers.specs.Error.{Error};
 ghost use Rattle.gimli_core_readers.specs.Error.TheVariants.{Memory};
 ghost use Rattle.gimli_core_readers.specs.DebugAbbrevOffset.{DebugAbbrevOffset};
 ghost use Rattle.gimli_core_abbrev.specs.TableCache.{table_view, AreTablesOf, chosen_offsets, chosen_tables, EndsOffsets};
+ghost use Rattle.gimli_core_abbrev.specs.TableChecks.{find_declaration};
 ghost use Rattle.gimli_core_abbrev.specs.TableParsing.{table_at};
 
+use crate::owned::OwnedAbbreviation;
 use crate::section::DebugAbbrev;
 use crate::table::Abbreviations;
 use crate::tails::next_table;
@@ -137,6 +139,27 @@ impl AbbreviationsCache {
         }
     }
 
+    /// The declaration of one code in the cached table of an offset, else in the section's table
+    /// there, which is checked on the way, and not kept: refused exactly where [`get`](Self::get)
+    /// is, and read as by [`DebugAbbrev::find_abbreviation`].
+    pub fn find_abbreviation<R: Reader>(
+        &self,
+        alloc: Global,
+        section: &DebugAbbrev<R>,
+        offset: DebugAbbrevOffset<R::Offset>,
+        code: u64,
+    ) -> Result<Option<OwnedAbbreviation>, Error>
+        ensures { ReturnsOrNoMemory result (find_declaration code
+            (unwrap_or (finite_map.get self.now (R.Offset.count offset.0))
+            (table_at (R.Offset.count offset.0) section.now))) }
+    {
+        let place = offset.0.into_u64();
+        match self.cached_table(place) {
+            Some(table) => find_in(alloc, table, code),
+            None => section.find_abbreviation(alloc, offset, code),
+        }
+    }
+
     // What is cached at an offset.
     fn cached_table(&self, offset: u64) -> Option<&CachedTable>
         ensures { option_map (λ table. table_view table.now) result
@@ -154,6 +177,20 @@ fn copy_of(table: &CachedTable) -> Result<Rc<Abbreviations>, Error>
     match table {
         Ok(abbreviations) => Ok(abbreviations.clone()?),
         Err(error) => Err(*error),
+    }
+}
+
+// A copy of the declaration of a code in a cached table, or the fault that is cached in its place.
+fn find_in(
+    alloc: Global,
+    table: &CachedTable,
+    code: u64,
+) -> Result<Option<OwnedAbbreviation>, Error>
+    ensures { ReturnsOrNoMemory result (find_declaration code (table_view table.now)) }
+{
+    match table {
+        Ok(abbreviations) => abbreviations.get_owned(alloc, code),
+        Err(fault) => Err(*fault),
     }
 }
 

@@ -131,8 +131,5 @@ fn find_in_table<R: Reader>(
         (find_declaration code (value_of (table (R.view reader.now)))) }
 {
     let declarations = table::parse(alloc, &mut borrowed(reader))?;
-    let Some(found) = declarations.get(code) else {
-        return Ok(None);
-    };
-    Ok(Some(OwnedAbbreviation::copy_of(alloc, &found)?))
+    declarations.get_owned(alloc, code)
 }

@@ -1,8 +1,8 @@
 //! A declaration of an abbreviation table.
 
-ghost use Rattle.std.specs.Prelude.{◌≡◌, List, map};
+ghost use Rattle.std.specs.Prelude.{◌≡◌, ◌<◌, List, map};
 ghost use Rattle.gimli_core_abbrev.specs.AttributeViews.{attribute_view};
-ghost use Rattle.gimli_core_abbrev.specs.AbbreviationViews.{declaration_of_parts};
+ghost use Rattle.gimli_core_abbrev.specs.AbbreviationViews.{declaration_of_parts, with_attributes};
 ghost use Rattle.gimli_core_abbrev.specs.DeclarationFacts.{names_ranges, FitsInBytes, KnowsRead, KnowsAttributes};
 ghost use Rattle.gimli_core_abbrev.specs.Declarations.{Attribute};
 ghost use Rattle.gimli_core_abbrev.specs.FormWidths.{AreWidthsOf};
@@ -47,7 +47,8 @@ pub(crate) struct CodedHead {
     pub(crate) head: Head,
 }
 
-/// What entries of one code have in common: a declaration, borrowed from its table.
+/// What entries of one code have in common: a declaration, borrowed from its table. No declaration
+/// has the code 0, which is that of null entries.
 #[derive(Debug, Drop)]
 pub struct Abbreviation<'table> {
     code: u64,
@@ -56,7 +57,7 @@ pub struct Abbreviation<'table> {
 }
 
 impl<'table> Model for Abbreviation<'table> {
-    ghost use Rattle.std.specs.Prelude.{map};
+    ghost use Rattle.std.specs.Prelude.{◌<◌, map};
     ghost use Rattle.gimli_core_abbrev.specs.Declarations.{Declaration, declaration_coding};
     ghost use Rattle.gimli_core_abbrev.specs.AttributeViews.{attribute_view};
     ghost use Rattle.gimli_core_abbrev.specs.AbbreviationViews.{declaration_of_parts};
@@ -68,7 +69,8 @@ impl<'table> Model for Abbreviation<'table> {
 
     ghost view = { λ a. declaration_of_parts a.code a.head (map attribute_view a.attributes.now) };
 
-    ghost invariant = { λ a. KnowsAttributes a.head (map attribute_view a.attributes.now) };
+    ghost invariant = { λ a. (0 < a.code)
+        × KnowsAttributes a.head (map attribute_view a.attributes.now) };
 }
 
 /// Compares all that declarations say.
@@ -102,7 +104,8 @@ impl<'table> Abbreviation<'table> {
         head: Head,
         attributes: &'table [AttributeSpecification],
     ) -> Self
-        requires { KnowsAttributes head (map attribute_view attributes.now) }
+        requires code { 0 < code }
+        requires knows { KnowsAttributes head (map attribute_view attributes.now) }
         ensures { result
             ≡ declaration_of_parts code head (map attribute_view attributes.now) }
     {
@@ -164,11 +167,14 @@ impl<'table> Abbreviation<'table> {
 
     // What the declaration says before its attributes, and what is known of these.
     #[inline(always)]
-    pub(crate) fn head(&self) -> Head
-        ensures parts { self.now ≡ declaration_of_parts
-            self.now.code result self.now.attributes }
-        ensures knows { KnowsAttributes result self.now.attributes }
+    pub(crate) fn coded_head(&self) -> CodedHead
+        ensures parts { self.now ≡ with_attributes self.now.attributes result }
+        ensures code { 0 < result.code }
+        ensures knows { KnowsAttributes result.head self.now.attributes }
     {
-        self.head
+        CodedHead {
+            code: self.code,
+            head: self.head,
+        }
     }
 }

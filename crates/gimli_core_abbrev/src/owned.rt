@@ -1,8 +1,10 @@
 //! A declaration that outlives its table.
 
-ghost use Rattle.std.specs.Prelude.{◌≡◌, IfOk, IfErr};
+ghost use Rattle.std.specs.Prelude.{◌≡◌, ◌<◌, map, IfOk, IfErr};
 ghost use Rattle.gimli_core_readers.specs.Calls.{ReturnsAsOrNoMemory};
 ghost use Rattle.gimli_core_readers.specs.Error.TheVariants.{Memory};
+ghost use Rattle.gimli_core_abbrev.specs.AbbreviationViews.{attribute_view, with_attributes};
+ghost use Rattle.gimli_core_abbrev.specs.DeclarationFacts.{KnowsAttributes};
 ghost use Rattle.gimli_core_abbrev.specs.TableParsing.{declaration};
 
 use crate::abbreviation::{self, AttributeSpecification};
@@ -31,7 +33,7 @@ impl Drop for OwnedAbbreviation {
 }
 
 impl Model for OwnedAbbreviation {
-    ghost use Rattle.std.specs.Prelude.{map};
+    ghost use Rattle.std.specs.Prelude.{◌<◌, map};
     ghost use Rattle.gimli_core_abbrev.specs.Declarations.{Declaration, declaration_coding};
     ghost use Rattle.gimli_core_abbrev.specs.AttributeViews.{attribute_view};
     ghost use Rattle.gimli_core_abbrev.specs.AbbreviationViews.{declaration_of_parts};
@@ -44,7 +46,8 @@ impl Model for OwnedAbbreviation {
     ghost view = { λ a. declaration_of_parts a.code a.head
         (map attribute_view a.attributes.items) };
 
-    ghost invariant = { λ a. KnowsAttributes a.head (map attribute_view a.attributes.items) };
+    ghost invariant = { λ a. (0 < a.code)
+        × KnowsAttributes a.head (map attribute_view a.attributes.items) };
 }
 
 impl OwnedAbbreviation {
@@ -55,15 +58,30 @@ impl OwnedAbbreviation {
         Abbreviation::of_parts(self.code, self.head, self.attributes.as_slice())
     }
 
+    // What it says before its attributes, and the attributes.
+    pub(crate) fn into_parts(self) -> (CodedHead, Vec<AttributeSpecification>)
+        ensures parts { self ≡ with_attributes (map attribute_view result.1.items) result.0 }
+        ensures code { 0 < result.0.code }
+        ensures knows { KnowsAttributes result.0.head (map attribute_view result.1.items) }
+    {
+        let OwnedAbbreviation {
+            code,
+            head,
+            attributes,
+        } = self;
+        (CodedHead { code, head }, attributes)
+    }
+
     // A copy of a declaration.
     pub(crate) fn copy_of(alloc: Global, abbreviation: &Abbreviation<'_>) -> Result<Self, Error>
         ensures ok { IfOk result (λ copy. copy ≡ abbreviation.now) }
         ensures err { IfErr result (λ e. e ≡ Memory) }
     {
         let attributes = Vec::from_slice(alloc, abbreviation.attributes())?;
+        let CodedHead { code, head } = abbreviation.coded_head();
         Ok(OwnedAbbreviation {
-            code: abbreviation.code(),
-            head: abbreviation.head(),
+            code,
+            head,
             attributes,
         })
     }

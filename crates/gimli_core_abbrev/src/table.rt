@@ -1,17 +1,20 @@
 //! Abbreviation tables, by their codes.
 
-ghost use Rattle.std.specs.Prelude.{◌≡◌, ℕ, ◌≤◌, drop, length, option_map, is_some, Some, OnOk, IfOk, IfErr, slice_range, if◌then◌else◌};
+ghost use Rattle.std.specs.Prelude.{◌≡◌, ℕ, ◌<◌, ◌≤◌, [], ◌∷◌, drop, length, map, option_map, is_some, Some, Ok, OnOk, IfOk, IfErr, slice_range, if◌then◌else◌};
 ghost use Rattle.std.specs.Ordering.{nat_cmp};
 ghost use Rattle.std.specs.BTreeMap.{get, is_at};
 ghost use Rattle.std.specs.List.{slice_get};
-ghost use Rattle.gimli_core_readers.specs.Calls.{ReturnsAsOrNoMemory};
+ghost use Rattle.gimli_core_readers.specs.Calls.{ReturnsOrNoMemory, ReturnsAsOrNoMemory};
 ghost use Rattle.gimli_core_readers.specs.Error.TheVariants.{Memory};
+ghost use Rattle.gimli_core_abbrev.specs.AbbreviationViews.{attribute_view, with_attributes};
+ghost use Rattle.gimli_core_abbrev.specs.DeclarationFacts.{KnowsAttributes};
 ghost use Rattle.gimli_core_abbrev.specs.Declarations.{declaration_at, by_code};
 ghost use Rattle.gimli_core_abbrev.specs.TableParsing.{table};
 ghost use Rattle.gimli_core_abbrev.specs.TableLayout.{declaration_list, begin_of, place_of};
 
 use crate::abbreviation::{self, AttributeSpecification};
 use crate::declaration::{Abbreviation, CodedHead, Head};
+use crate::owned::OwnedAbbreviation;
 use gimli_core_readers::{EndianSlice, Endianity, Error};
 use std::alloc::Global;
 use std::collections::BTreeMap;
@@ -76,6 +79,57 @@ impl Model for DeclarationList {
 }
 
 impl DeclarationList {
+    // The list of one declaration, which has these attributes.
+    fn of_one(
+        alloc: Global,
+        declaration: CodedHead,
+        attributes: Vec<AttributeSpecification>,
+    ) -> Result<Self, Error>
+        requires code { 0 < declaration.code }
+        requires knows { KnowsAttributes declaration.head (map attribute_view attributes.items) }
+        ensures ok { IfOk result (λ l.
+            l ≡ with_attributes (map attribute_view attributes.items) declaration ∷ []) }
+        ensures err { IfErr result (λ e. e ≡ Memory) }
+    {
+        let end = attributes.len();
+        let head = declaration.head;
+        let mut declarations = Vec::with_capacity(alloc, 1)?;
+        declarations.push(StoredDeclaration { end, head })?;
+        let mut others = Vec::new(alloc);
+        let mut places = BTreeMap::new(alloc);
+        if declaration.code == 1 {
+            return Ok(DeclarationList {
+                declarations,
+                attributes,
+                in_order: 1,
+                others,
+                places,
+            });
+        }
+        others.push(declaration.code)?;
+        put_place(&mut places, declaration.code, 0)?;
+        Ok(DeclarationList {
+            declarations,
+            attributes,
+            in_order: 0,
+            others,
+            places,
+        })
+    }
+
+    // The list of no declaration.
+    fn empty(alloc: Global) -> Self
+        ensures { result ≡ [] }
+    {
+        DeclarationList {
+            declarations: Vec::new(alloc),
+            attributes: Vec::new(alloc),
+            in_order: 0,
+            others: Vec::new(alloc),
+            places: BTreeMap::new(alloc),
+        }
+    }
+
     // How many declarations there are.
     pub(crate) fn len(&self) -> usize
         ensures { result ≡ length self.now }
@@ -109,7 +163,8 @@ impl DeclarationList {
     // The declaration at a place, whose code is known.
     #[inline(always)]
     fn at(&self, place: usize, code: u64) -> Abbreviation<'_>
-        requires { option_map (λ d. d.code) (slice_get self.now place) ≡ Some code }
+        requires code { 0 < code }
+        requires there { option_map (λ d. d.code) (slice_get self.now place) ≡ Some code }
         ensures { slice_get self.now place ≡ Some result }
     {
         let stored = self.declarations[place];
@@ -221,6 +276,30 @@ impl Model for Abbreviations {
 }
 
 impl Abbreviations {
+    /// The table of one declaration. The only refusal is out of memory.
+    pub fn of_one(alloc: Global, declaration: OwnedAbbreviation) -> Result<Self, Error>
+        ensures ok { IfOk result (λ t. t ≡ declaration ∷ []) }
+        ensures err { IfErr result (λ e. e ≡ Memory) }
+    {
+        let (declaration, attributes) = declaration.into_parts();
+        let list = DeclarationList::of_one(alloc, declaration, attributes)?;
+        Ok(Abbreviations {
+            list: Rc::new(alloc, list)?,
+            from: 0,
+        })
+    }
+
+    /// The table of no declaration. The only refusal is out of memory.
+    pub fn empty(alloc: Global) -> Result<Self, Error>
+        ensures ok { IfOk result (λ t. t ≡ []) }
+        ensures err { IfErr result (λ e. e ≡ Memory) }
+    {
+        Ok(Abbreviations {
+            list: Rc::new(alloc, DeclarationList::empty(alloc))?,
+            from: 0,
+        })
+    }
+
     // The table of a list's declarations from one on, which it shares with the list.
     pub(crate) fn from_list(list: &Rc<DeclarationList>, from: usize) -> Result<Self, Error>
         ensures ok { IfOk result (λ t. t ≡ by_code (drop from list.now.value)) }
@@ -240,10 +319,21 @@ impl Abbreviations {
     {
         self.list.as_ref().get(self.from, code)
     }
+
+    /// A copy of the declaration of a code, which needs no table. Takes the time of
+    /// [`get`](Self::get), and that of copying the attributes.
+    pub fn get_owned(&self, alloc: Global, code: u64) -> Result<Option<OwnedAbbreviation>, Error>
+        ensures { ReturnsOrNoMemory result (Ok (declaration_at code self.now)) }
+    {
+        match self.get(code) {
+            Some(found) => Ok(Some(OwnedAbbreviation::copy_of(alloc, &found)?)),
+            None => Ok(None),
+        }
+    }
 }
 
-// Room for as many declarations and attributes is taken before the first, so that few tables have to
-// be moved while they grow.
+// Room for as many declarations and attributes is taken before the first, so that few tables have
+// to be moved while they grow.
 const FIRST_DECLARATIONS: usize = 64;
 
 const FIRST_ATTRIBUTES: usize = 256;

@@ -5,5 +5,8 @@ pub mod LastAttributes
 mod OffsetCallLemmas
 mod SectionCalls
 mod RootLemmas
+mod RootDeclarations
 mod RootValueSteps
 mod UnitSteps
+mod BareUnitSteps
+mod WholeParts

@@ -40,9 +40,11 @@ pub use Rattle.gimli_dwarf_spec.specs.ListProgress
 pub use Rattle.gimli_dwarf_spec.specs.Lists
 pub use Rattle.gimli_dwarf_spec.specs.LocationEntries
 pub use Rattle.gimli_dwarf_spec.specs.RangeEntries
+pub mod BareUnits
 pub mod CachedFiles
 pub mod OffsetCalls
 pub mod RootBases
 pub mod RootValues
 pub mod Roots
 pub mod SectionLoading
+pub mod WholeUnits

@@ -12,9 +12,12 @@ ghost use Rattle.gimli_dwarf_spec.specs.Attributes.{supplement_string};
 ghost use Rattle.gimli_dwarf_spec.specs.DwarfFiles.{supplement};
 ghost use Rattle.gimli_dwarf_spec.specs.Splitting.{split_from};
 ghost use Rattle.gimli_dwarf_spec.specs.EntryViews.{entry_of};
-ghost use Rattle.gimli_dwarf_spec.specs.UnitFacts.{unit_facts, root};
+ghost use Rattle.gimli_dwarf_spec.specs.Results.{and_then};
+ghost use Rattle.gimli_dwarf_spec.specs.UnitFacts.{UnitFacts, unit_facts, root};
+ghost use Rattle.gimli_dwarf.specs.BareUnits.{bare_unit_facts, root_declarations};
 
 use crate::holders::{DebugMacinfo, DebugMacro, DebugNames, DebugTypes};
+use crate::root::root_code;
 use crate::unit::Unit;
 use gimli_dwarf_spec::{
     Abbreviations, AbbreviationsCache, DebugAbbrev, DebugAbbrevOffset, DebugAddr, DebugAranges,
@@ -172,6 +175,26 @@ impl<R: Reader> Dwarf<R> {
         Unit::with_root(alloc, self, header, entry)
     }
 
+    /// The unit of a header as `unit_with_root` makes it, but without its declarations and the
+    /// header of its line number program: these are only checked, so it is refused exactly where
+    /// `unit_with_root` is. Its root comes in place of another entry, whose memory it takes. Beside
+    /// the unit's texts only the root's declaration takes memory; where the codes of a table that
+    /// isn't cached aren't 1, 2, .. in order, that table does too, for a time.
+    pub fn bare_unit_with_root(
+        &self,
+        alloc: Global,
+        header: UnitHeader<R>,
+        entry: &mut DebuggingInformationEntry<R>,
+    ) -> Result<Unit<R>, Error>
+        ensures unit { ReturnsOrNoMemory result (bare_unit_facts self.now.file header) }
+        // The root of the unit with its declarations.
+        ensures root { OnOk result ((u : UnitFacts) → unit_facts self.now.file header ≡ Ok u
+            → root self.now.file.offset_limit u.header u.table
+            ≡ Ok (entry_of R.view R.Offset.count entry.new)) }
+    {
+        Unit::bare_with_root(alloc, self, header, entry)
+    }
+
     // The abbreviation table at an offset, from the cache if it is there.
     pub(crate) fn abbreviations(
         &self,
@@ -190,6 +213,29 @@ impl<R: Reader> Dwarf<R> {
     {
         let section = &self.debug_abbrev;
         self.abbreviations_cache.get(alloc, section, offset)
+    }
+
+    // The table of the root's declaration alone, or of none, where the unit's table hasn't its code.
+    // The unit's table is checked, from the cache if it is there.
+    pub(crate) fn root_declarations(
+        &self,
+        alloc: Global,
+        header: &UnitHeader<R>,
+    ) -> Result<Abbreviations, Error>
+        ensures value { ReturnsOrNoMemory result
+            (and_then (table_at header.now.abbrev_offset self.now.file.sections.debug_abbrev)
+            (λ table. Ok (root_declarations header.now table))) }
+        // Offsets in the file are the reader's.
+        ensures limit { self.now.file.offset_limit ≡ R.Offset.limit }
+    {
+        let section = &self.debug_abbrev;
+        let offset = header.debug_abbrev_offset();
+        let code = root_code(header);
+        let cache = &self.abbreviations_cache;
+        match cache.find_abbreviation(alloc, section, offset, code)? {
+            Some(declaration) => Abbreviations::of_one(alloc, declaration),
+            None => Abbreviations::empty(alloc),
+        }
     }
 
     /// Makes this a split file of a main file: its addresses, its range lists of old versions and

@@ -9,6 +9,7 @@ mod loading;
 mod root;
 pub mod unit;
 pub mod unit_ref;
+mod whole;
 
 pub use dwarf::Dwarf;
 pub use gimli_dwarf_spec::{

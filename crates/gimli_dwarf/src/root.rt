@@ -6,6 +6,7 @@ ghost use Rattle.gimli_dwarf_spec.specs.Calls.{ReturnsAsOrNoMemory, ReturnsOrNoM
 ghost use Rattle.gimli_dwarf_spec.specs.AttributeValues.{raw_value_of, raw_attribute_of};
 ghost use Rattle.gimli_dwarf_spec.specs.EntryViews.{entry_of, raw_attributes};
 ghost use Rattle.gimli_dwarf_spec.specs.UnitFacts.{root, value_of_kind, any_value};
+ghost use Rattle.gimli_dwarf.specs.BareUnits.{root_code};
 ghost use Rattle.gimli_dwarf.specs.RootBases.{names_base, offset_of_base};
 ghost use Rattle.gimli_dwarf.specs.RootValues.{named_value, no_values, root_values, bases_in, with_attribute};
 
@@ -15,7 +16,7 @@ use gimli_dwarf_spec::{
     DW_AT_name, DW_AT_rnglists_base, DW_AT_stmt_list, DW_AT_str_offsets_base, DebugAddrBase,
     DebugLocListsBase, DebugRngListsBase, DebugStrOffsetsBase, DebuggingInformationEntry,
     DefaultBase, DwAt, DwarfFileType, Encoding, Error, Reader, ReaderOffset, UnitHeader,
-    entries_raw,
+    entries_raw, first_code,
 };
 use std::alloc::Global;
 use std::marker::Model;
@@ -52,6 +53,13 @@ pub(crate) fn root_entry<R: Reader>(
     let mut entry = DebuggingInformationEntry::null(alloc);
     read_root(header, abbreviations, &mut entry)?;
     Ok(entry)
+}
+
+// The code of a unit's root; 0, which no declaration has, where it can't be read.
+pub(crate) fn root_code<R: Reader>(header: &UnitHeader<R>) -> u64
+    ensures { result ≡ root_code header.now }
+{
+    first_code(header).unwrap_or(0)
 }
 
 // An offset that a root names for its unit: of its line number program, or of the first entry of a

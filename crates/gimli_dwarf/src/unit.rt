@@ -1,13 +1,16 @@
 //! A unit and the facts of its root.
 
-ghost use Rattle.std.specs.Prelude.{◌≡◌, Ok, IfOk, Some, option_map, option_and_then};
+ghost use Rattle.std.specs.Prelude.{◌≡◌, [], None, Ok, IfOk, OnOk, Option, Some, option_map, option_and_then};
 ghost use Rattle.std.specs.Option.{option_or};
-ghost use Rattle.gimli_dwarf_spec.specs.Calls.{ReturnsAsOrNoMemory, ReturnsOrNoMemory};
+ghost use Rattle.gimli_dwarf_spec.specs.Calls.{Returns, ReturnsAsOrNoMemory, ReturnsOrNoMemory};
+ghost use Rattle.gimli_dwarf_spec.specs.Results.{refusal_of};
+ghost use Rattle.gimli_dwarf_spec.specs.View.{View};
 ghost use Rattle.gimli_dwarf_spec.specs.AttributeValues.{raw_value_of};
 ghost use Rattle.gimli_dwarf_spec.specs.EntryViews.{entry_of, raw_attributes};
 ghost use Rattle.gimli_dwarf_spec.specs.HeaderParsing.{header_at};
 ghost use Rattle.gimli_dwarf_spec.specs.Splitting.{relocated_from};
-ghost use Rattle.gimli_dwarf_spec.specs.UnitFacts.{unit_facts, root, dwo_name, dwo_name_number, facts_of, readable_text, address_or_0, line_header_of, dwo_id_in, dwo_id_of};
+ghost use Rattle.gimli_dwarf_spec.specs.UnitFacts.{UnitFacts, unit_facts, root, dwo_name, dwo_name_number, facts_of, readable_text, address_or_0, line_header_of, dwo_id_in, dwo_id_of};
+ghost use Rattle.gimli_dwarf.specs.BareUnits.{bare, bare_unit_facts};
 ghost use Rattle.gimli_dwarf.specs.Roots.{facts_without_texts, facts_with_texts, line_unit, facts_with_program};
 
 use crate::dwarf::Dwarf;
@@ -95,6 +98,24 @@ impl<R: Reader> Unit<R> {
         Unit::of_root(alloc, dwarf, header, abbreviations, entry.attrs())
     }
 
+    // The same without its declarations and the header of its line number program, which are only
+    // checked.
+    pub(crate) fn bare_with_root(
+        alloc: Global,
+        dwarf: &Dwarf<R>,
+        header: UnitHeader<R>,
+        entry: &mut DebuggingInformationEntry<R>,
+    ) -> Result<Self, Error>
+        ensures unit { ReturnsOrNoMemory result (bare_unit_facts dwarf.now.file header) }
+        ensures root { OnOk result ((u : UnitFacts) → unit_facts dwarf.now.file header ≡ Ok u
+            → root dwarf.now.file.offset_limit u.header u.table
+            ≡ Ok (entry_of R.view R.Offset.count entry.new)) }
+    {
+        let declarations = dwarf.root_declarations(alloc, &header)?;
+        read_root(&header, &declarations, entry)?;
+        Unit::bare_of_root(alloc, dwarf, header, entry.attrs())
+    }
+
     // A unit whose root has these attributes.
     fn of_root(
         alloc: Global,
@@ -106,6 +127,52 @@ impl<R: Reader> Unit<R> {
         ensures { ReturnsOrNoMemory result
             (facts_of dwarf.now.file header abbreviations.value
             (raw_attributes R.view R.Offset.count attrs.now)) }
+    {
+        let UnitBeforeProgram {
+            mut unit,
+            line,
+            low_pc,
+        } = Unit::before_program(dwarf, header, abbreviations, attrs)?;
+        unit.read_program(alloc, dwarf, line, low_pc)?;
+        Ok(unit)
+    }
+
+    // The same without its declarations and the header of its line number program.
+    fn bare_of_root(
+        alloc: Global,
+        dwarf: &Dwarf<R>,
+        header: UnitHeader<R>,
+        attrs: &[Attribute<R>],
+    ) -> Result<Self, Error>
+        ensures { ReturnsOrNoMemory result
+            (bare (facts_of dwarf.now.file header []
+            (raw_attributes R.view R.Offset.count attrs.now))) }
+    {
+        let abbreviations = Rc::new(alloc, Abbreviations::empty(alloc)?)?;
+        let UnitBeforeProgram {
+            mut unit,
+            line,
+            low_pc,
+        } = Unit::before_program(dwarf, header, abbreviations, attrs)?;
+        unit.check_program(dwarf, line, low_pc)?;
+        Ok(unit)
+    }
+
+    // A unit whose root has these attributes, up to its line number program and the address that it
+    // begins at. The only refusal is out of memory.
+    fn before_program(
+        dwarf: &Dwarf<R>,
+        header: UnitHeader<R>,
+        abbreviations: Rc<Abbreviations>,
+        attrs: &[Attribute<R>],
+    ) -> Result<UnitBeforeProgram<R>, Error>
+        ensures facts { ReturnsAsOrNoMemory (λ b.
+            facts_with_program dwarf.now.file b.unit (option_map R.Offset.count b.line)
+            (option_map (raw_value_of R.view R.Offset.count) b.low_pc)) result
+            (Ok (facts_of dwarf.now.file header abbreviations.value
+            (raw_attributes R.view R.Offset.count attrs.now))) }
+        ensures table { IfOk result (λ b. b.unit.table ≡ abbreviations.value) }
+        ensures program { IfOk result (λ b. b.unit.line_header ≡ None) }
     {
         let found = RootAttributes::read(attrs)?;
         let bases = UnitBases::new(dwarf.file_type, &header, &found);
@@ -120,8 +187,7 @@ impl<R: Reader> Unit<R> {
         let dwo_id = dwo_id_of(&header, dwo_id);
         let mut unit = Unit::without_texts(header, abbreviations, bases, dwo_id);
         unit.read_texts(dwarf, name, comp_dir)?;
-        unit.read_program(alloc, dwarf, line, low_pc)?;
-        Ok(unit)
+        Ok(UnitBeforeProgram { unit, line, low_pc })
     }
 
     // A unit with the bases that its root names, and its identifier.
@@ -201,8 +267,27 @@ impl<R: Reader> Unit<R> {
         Ok(())
     }
 
+    // Checks the header of its line number program, and takes the address that it begins at.
+    fn check_program(
+        &mut self,
+        dwarf: &Dwarf<R>,
+        line: Option<R::Offset>,
+        low_pc: Option<AttributeValue<R>>,
+    ) -> Result<(), Error>
+        requires table { self.old.table ≡ [] }
+        requires program { self.old.line_header ≡ None }
+        ensures { ReturnsAsOrNoMemory (λ _. self.new) result
+            (bare (facts_with_program dwarf.now.file self.old (option_map R.Offset.count line)
+            (option_map (raw_value_of R.view R.Offset.count) low_pc))) }
+    {
+        dwarf.check_line_header(&self.header, line)?;
+        let begin = self.begin(dwarf, low_pc)?;
+        self.low_pc = begin;
+        Ok(())
+    }
+
     // The header of the line number program at an offset, if there is one.
-    fn line_header(
+    pub(crate) fn line_header(
         &self,
         alloc: Global,
         dwarf: &Dwarf<R>,
@@ -269,6 +354,14 @@ impl<R: Reader> Unit<R> {
             self.rnglists_base = other.rnglists_base;
         }
     }
+}
+
+// A unit without its line number program, and what its root says of that, and of where it begins.
+#[derive(Drop)]
+struct UnitBeforeProgram<R: Reader> {
+    unit: Unit<R>,
+    line: Option<R::Offset>,
+    low_pc: Option<AttributeValue<R>>,
 }
 
 // The identifier that a value is.
@@ -341,6 +434,29 @@ impl<R: Reader> Dwarf<R> {
             Some(offset) => Ok(Some(self.line_header_at(alloc, header, offset, comp_dir, name)?)),
             None => Ok(None),
         }
+    }
+
+    // Checks the header of the line number program at an offset, if there is one. Takes no memory.
+    fn check_line_header(
+        &self,
+        header: &UnitHeader<R>,
+        offset: Option<R::Offset>,
+    ) -> Result<(), Error>
+        ensures { (directory name : Option View) → Returns result
+            (refusal_of (line_header_of self.now.file
+            (record {
+              address_bytes = header.now.encoding.address_size;
+              directory = directory;
+              name = name;
+            })
+            (option_map R.Offset.count offset))) }
+    {
+        let Some(offset) = offset else {
+            return Ok(());
+        };
+        let address_size = header.address_size();
+        self.debug_line
+            .check_header(DebugLineOffset(offset), address_size)
     }
 
     // The header of the line number program at an offset.

@@ -8,7 +8,7 @@ pub use gimli_lines_header::{
     AttributeSpecification, AttributeValue, DebugAbbrev, DebugAranges, DebugInfo,
     DebugInfoUnitHeadersIter, DebugLine, LineProgramHeader, OffsetInSection, UnitHeader, UnitType,
 };
-pub use gimli_units_entries::unit::entries_raw;
+pub use gimli_units_entries::unit::{entries_raw, first_code};
 pub use gimli_units_entries::{
     DW_AT_GNU_addr_base, DW_AT_GNU_dwo_id, DW_AT_GNU_dwo_name, DW_AT_GNU_ranges_base,
     DW_AT_MIPS_linkage_name, DW_AT_abstract_origin, DW_AT_addr_base, DW_AT_comp_dir,

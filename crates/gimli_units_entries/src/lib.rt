@@ -32,4 +32,4 @@ pub use gimli_units_headers::{
     UnitType,
 };
 pub use raw::EntriesRaw;
-pub use unit::{UnitEntries, entries_raw};
+pub use unit::{UnitEntries, entries_raw, first_code};

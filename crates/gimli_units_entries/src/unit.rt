@@ -1,7 +1,9 @@
 //! The entries of a unit, by its header.
 
 ghost use Rattle.std.specs.Prelude.{◌≢◌, Err, IsTrue, option_map};
-ghost use Rattle.gimli_core_base.specs.Calls.{ReturnsAsOrNoMemory, ReturnsOrNoMemory};
+ghost use Rattle.gimli_core_base.specs.Calls.{Returns, ReturnsAsOrNoMemory, ReturnsOrNoMemory};
+ghost use Rattle.gimli_core_base.specs.NumberParsers.{unsigned};
+ghost use Rattle.gimli_core_base.specs.Parsers.{value_of};
 ghost use Rattle.gimli_core_base.specs.declared.error.Error.TheVariants.{Memory};
 ghost use Rattle.gimli_units_forms.specs.TableParsing.{table_at};
 ghost use Rattle.gimli_units_headers.specs.UnitHeaders.{DebugUnit};
@@ -9,6 +11,7 @@ ghost use Rattle.gimli_units_entries.specs.EntryRows.{entry_at};
 ghost use Rattle.gimli_units_entries.specs.EntryViews.{entry_of};
 ghost use Rattle.gimli_units_entries.specs.UnitEntries.{walk_from};
 
+use crate::codes::code_at;
 use crate::entry::DebuggingInformationEntry;
 use crate::raw::EntriesRaw;
 use gimli_core_base::ReaderOffset;
@@ -97,4 +100,13 @@ pub fn entries_raw<'abbrev, R: Reader>(
         end_offset: UnitOffset(unit.length_including_self()),
         depth: 0,
     })
+}
+
+/// The code of a unit's first entry, by which its declaration is found (DWARF 5, 7.5.2); 0 where
+/// that is a null entry. Takes no memory.
+pub fn first_code<R: Reader>(unit: &UnitHeader<R>) -> Result<u64, Error>
+    ensures { Returns result (value_of (unsigned unit.now.entries)) }
+{
+    let (code, _length) = code_at(unit.entries_reader())?;
+    Ok(code)
 }

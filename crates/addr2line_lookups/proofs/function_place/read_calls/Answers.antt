@@ -28,7 +28,7 @@ returns g c =
           subst P
           (sym (ap (λ (x : KnownUnits). calls_among x v k)
           (known_is us s c.in_order.result c.in_order.ensures.units c.in_order.ensures.supplement)
-          ∙ calls_from_holder c.in_order.result v c.in_ok-functions_unit.field-0 k c.in_ok-functions_unit.ensures))
+          ∙ calls_from_holder c.in_order.result v c.in_ok-functions_unit.field-0 k c.in_ok-functions_unit.ensures.unit))
           c.read_calls.ensures.calls;
       counter = c.read_calls.ensures.counter;
     }
@@ -40,6 +40,6 @@ returns-in_err-functions_unit g c =
     record {
       calls =
           rw (p.1, p.2) (λ m.
-          no_calls_from known c.args.unit.now.value c.args.function _ c.in_err-functions_unit.ensures);
+          no_calls_from known c.args.unit.now.value c.args.function _ (c.in_err-functions_unit.ensures.unit m));
       counter = rw p.1 tt;
     }

@@ -1,5 +1,6 @@
-use Rattle.std.proofs.Common.{ap}
+use Rattle.std.proofs.Common.{ap, inl, option_map}
 use Rattle.addr2line_unit.specs.ResolvedUnits.{ResolvedUnit}
+use Rattle.addr2line_lookups.proofs.AnsweredLoads.{answer_without_load}
 use Rattle.addr2line_lookups.proofs.CallsLeft.{leaves_answer}
 use Rattle.addr2line_lookups.proofs.KeptFunctionLists.{functions_same}
 use Rattle.addr2line_lookups.proofs.UnitProbes.{looks_nowhere}
@@ -24,3 +25,10 @@ returns-clause-lines g c = ap (λ (u : ResolvedUnit). u.keeps_lines) c.record_an
 
 pub returns-clause-functions : goal.returns-clause-functions
 returns-clause-functions g c = ap (λ (u : ResolvedUnit). u.keeps_functions) c.record_answer.ensures.kept
+
+-- ---- a unit without a load
+
+pub returns-in_default-clause-answer : goal.returns-in_default-clause-answer
+returns-in_default-clause-answer g c =
+    inl (answer_without_load c.args.unit.now.value (option_map (λ f. f.value.file) c.args.file) c.check_unit.result
+    c.in_default.ensures c.check_unit.ensures)

@@ -41,6 +41,6 @@ returns g c =
       change = frames.change;
       found =
           subst settles (sym (asked_decided (search.ask known c.args.probe) search.nothing vs c.args.number decided))
-          (c.settle.ensures.settled known c.args.probe vs new frames.found);
+          (c.settle.ensures.settled known c.args.probe vs new frames.found frames.kept);
       kept = λ answered none. frames.kept (λ refused. answered (c.settle.ensures.memory refused));
     }

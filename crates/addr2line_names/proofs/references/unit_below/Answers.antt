@@ -22,4 +22,4 @@ returns g c =
     let here : n - 1 < length units = omega (arith, some, within) in
     sym (last_before_point facts below n (n - 1) units last within c.count_below-count.ensures.point
     ∙ ap (option_map facts) (slice_get-get_or units (n - 1) c.index-units-count.result here)
-    ∙ ap (λ u. Some (facts u)) (sym c.index-units-count.is) ∙ ap Some (sym c.unit.ensures))
+    ∙ ap (λ u. Some (facts u)) (sym c.index-units-count.is))

@@ -1,5 +1,4 @@
-use Rattle.std.proofs.Common.{rules, ◌≡◌, ◌+◌, suc, length, subst, true, Option, Some, None, option_map, Result, Ok, List, ◌++◌, refl, ap, sym, ◌∙◌, arith, is_some}
-use Rattle.std.specs.Prelude.{IfSome}
+use Rattle.std.proofs.Common.{rules, ◌≡◌, ◌+◌, suc, length, true, None, Result, Ok, List, ◌++◌, refl, ap, sym, ◌∙◌, arith, is_some}
 use Rattle.std.specs.Ordering.{nat_cmp}
 use Rattle.std.specs.BTreeMap.{get}
 use Rattle.gimli_core_readers.specs.Error.{Error}
@@ -9,34 +8,20 @@ use Rattle.gimli_core_readers.proofs.RefusedCalls.{returns_refused}
 use Rattle.gimli_core_readers.proofs.Listings.{item_smaller}
 use Rattle.gimli_core_abbrev.specs.declared.abbreviation.AttributeSpecification.{AttributeSpecification}
 use Rattle.gimli_core_abbrev.specs.declared.table.StoredDeclaration.{StoredDeclaration}
-use Rattle.gimli_core_abbrev.specs.Declarations.{Attribute, Declaration, declaration_at, by_code}
+use Rattle.gimli_core_abbrev.specs.Declarations.{Declaration, declaration_at, by_code}
 use Rattle.gimli_core_abbrev.specs.TableParsing.{declaration}
 use Rattle.gimli_core_abbrev.specs.TableLayout.{stored}
 use Rattle.gimli_core_abbrev.specs.AbbreviationViews.{added, added_view, Extends, with_attributes}
 use Rattle.gimli_core_abbrev.specs.DeclarationFacts.{KnowsAttributes}
-use Rattle.gimli_core_abbrev.specs.declared.declaration.CodedHead.{CodedHead}
 use Rattle.gimli_core_abbrev.proofs.DeclarationSizes.{declarations-shrink}
 use Rattle.gimli_core_abbrev.proofs.DeclarationPlaces.{place_known}
+use Rattle.gimli_core_abbrev.proofs.ParsedDeclarations.{parsed_item, of_parsed}
 use Rattle.gimli_core_abbrev.proofs.StoredDeclarations.{Adds, view_in_order, view_other, stays_in_order, stays_elsewhere}
 use Rattle.gimli_core_abbrev.proofs.TableCollection.{list_fault, list_end, list_repeated, listing_further, declaration-coded, found_by_code, none_there}
 use Rattle.gimli_core_abbrev.proofs.table.parse_list.Goals as goal
 
 abbrev ok_list : View → List Declaration → Result (List Declaration × View) Error
 ok_list v ds = Ok (ds, v)
-
-abbrev ok_read : Option Declaration → View → Result (Option Declaration × View) Error
-ok_read o v = Ok (o, v)
-
--- the declaration that was parsed, where there is one
-parsed_item : {o : Option CodedHead} {head : CodedHead} (v place : View) (attributes : List Attribute) → o ≡ Some head
-    → declaration v ≡ ok_read (option_map (with_attributes attributes) o) place
-    → declaration v ≡ ok_read (Some (with_attributes attributes head)) place
-parsed_item v place attributes is reads =
-    reads ∙ ap (λ (o : Option CodedHead). ok_read (option_map (with_attributes attributes) o) place) is
-
--- what is known of it
-of_parsed : {o : Option CodedHead} {head : CodedHead} (P : CodedHead → Type 0) → o ≡ Some head → IfSome o P → P head
-of_parsed P is knows = subst (λ (o : Option CodedHead). IfSome o P) is knows
 
 pub returns-in_err-parsed : goal.returns-in_err-parsed
 returns-in_err-parsed g c =

@@ -19,8 +19,8 @@ returns-in-Ok-Waits g c =
     let after = c.in-Ok-Waits.ensures.after in
     let found_after = with_memory unit_search (Unit {0}) _ a c.args.self.now _ (λ has. is_value _) after in
     let waits : IsPending meaning =
-    subst (λ o. SettlesUnit (map value_of_unit c.settle_unit.new.self.units) meaning (Ok o)) c.in-Ok-Waits.field-0-is
-    c.in-Ok-Waits.ensures.found in (
+    subst (λ o. SettlesUnit (map value_of_unit c.settle_unit.new.self.units) c.settle_unit.new.self.units meaning
+    (Ok o)) c.in-Ok-Waits.field-0-is c.in-Ok-Waits.ensures.found in (
       (
         refl,
         λ w. refl,
@@ -39,14 +39,17 @@ pub returns-in-Ok-Found : goal.returns-in-Ok-Found
 returns-in-Ok-Found g c =
     let old = c.args.self.now in
     let a = c.args.probe in
-    let vs = map value_of_unit c.self.inside.units in
+    let us = c.self.inside.units in
+    let vs = map value_of_unit us in
     let number = c.in-Ok-Found.number in
     let meaning = unit_in old.value a in
-    let found : FoundUnit vs meaning number =
-    subst (λ o. SettlesUnit vs meaning (Ok o)) c.in-Ok-Found.field-0-is
-    (subst (λ (x : ResolvedContext). SettlesUnit (map value_of_unit x.units) meaning (Ok c.in-Ok-Found.field-0))
+    let found : FoundUnit vs us meaning number =
+    subst (λ o. SettlesUnit vs us meaning (Ok o)) c.in-Ok-Found.field-0-is
+    (subst (λ (x : ResolvedContext). SettlesUnit (map value_of_unit x.units) x.units meaning (Ok c.in-Ok-Found.field-0))
     (sym c.self.view_is) c.in-Ok-Found.ensures.found) in
-    let lent = unit_lent vs meaning number c.functions_unit_at.result found c.functions_unit_at.ensures in (
+    let lent =
+    unit_lent vs us meaning number c.functions_unit_at.result found
+    (c.functions_unit_at.ensures found.keeps_functions) in (
       (
         refl,
         λ w. tt,
@@ -67,7 +70,8 @@ returns-in-Ok-Nothing g c =
     let a = c.args.probe in
     let none =
     no_unit (unit_in old a)
-    (subst (λ o. SettlesUnit (map value_of_unit c.settle_unit.new.self.units) (unit_in old a) (Ok o))
+    (subst (λ o. SettlesUnit (map value_of_unit c.settle_unit.new.self.units) c.settle_unit.new.self.units
+    (unit_in old a) (Ok o))
     c.in-Ok-Nothing.field-0-is c.in-Ok-Nothing.ensures.found) in (
       (
         refl,

@@ -17,7 +17,7 @@ pub returns-in_err-entry : goal.returns-in_err-entry
 returns-in_err-entry g t c =
     let some : 0 < c.args.left = omega arith in
     returns_refused _ c.from_residual.result _ _ c.from_residual.ensures.1
-    (λ ne. by_refused_reference _ _ _ _ _ some c.in_err-entry.ensures)
+    (λ ne. by_refused_reference _ _ _ _ _ some (c.in_err-entry.ensures ne))
 
 pub returns-in_default : goal.returns-in_default
 returns-in_default g t c =

@@ -12,7 +12,7 @@ pub invariant_of-self : goal.invariant_of-self
 invariant_of-self g c =
     let i = c.self.inside in
     let looks =
-    cursor_looks i.probes.name (lines_of_unit i.main.unit) i.probes c.cursor_in_kept.new.probes i.lines
+    cursor_looks i.probes.name (lines_of_unit i.main.counted.unit) i.probes c.cursor_in_kept.new.probes i.lines
     c.self.invariant.lines_are c.cursor_in_kept.ensures.cost in
     subst (λ (n : ℕ). KeepsParses i.main i.load i.first i.lines i.functions n) (sym looks.0) c.self.invariant
 
@@ -21,7 +21,7 @@ returns-clause-rows g c = λ kept.
     let i = c.self.inside in
     let begins : Result Lines Error → Type 0 = λ r. WalkBegins c.args.low r c.cursor_in_kept.result in
     subst (λ (u : ResolvedUnit). begins u.value.unit.lines) c.self.view_is
-    (of_kept i.probes.name (lines_of_unit i.main.unit) begins i.lines c.self.invariant.lines_are
+    (of_kept i.probes.name (lines_of_unit i.main.counted.unit) begins i.lines c.self.invariant.lines_are
     (ap (λ (u : ResolvedUnit). u.keeps_lines) c.self.view_is ∙ kept) c.cursor_in_kept.ensures.rows)
 
 pub returns-clause-cost : goal.returns-clause-cost
@@ -30,5 +30,5 @@ returns-clause-cost g c =
     let P : ResolvedUnit → Type 0 =
     λ u. AtMostProbes (cursor_probes u.value.unit.lines) u.probes c.cursor_in_kept.new.probes in
     subst P c.self.view_is
-    (cursor_looks i.probes.name (lines_of_unit i.main.unit) i.probes c.cursor_in_kept.new.probes i.lines
+    (cursor_looks i.probes.name (lines_of_unit i.main.counted.unit) i.probes c.cursor_in_kept.new.probes i.lines
     c.self.invariant.lines_are c.cursor_in_kept.ensures.cost)

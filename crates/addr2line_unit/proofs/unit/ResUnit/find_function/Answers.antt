@@ -20,7 +20,7 @@ returns-clause-number g c = λ kept.
     let P : Result (Option ℕ) Error → Type 0 = λ m. Returns c.find.result m in
     subst P
     (number_is i.functions.functions _ c.args.probe
-    (kept_are i.main.unit i.load i.first i.functions i.probes.name
+    (kept_are i.main.counted.unit i.load i.first i.functions i.probes.name
     c.self.invariant.load_is c.self.invariant.functions_are)
     (ap (λ (u : ResolvedUnit). u.keeps_functions) c.self.view_is ∙ kept)
     ∙ ap (λ (u : ResolvedUnit). number_in (functions_of u.value) c.args.probe) c.self.view_is)
@@ -33,6 +33,6 @@ returns-clause-cost g c =
     λ u. AtMostProbes (number_probes (functions_of u.value)) u.probes c.find.new.probes in
     subst P c.self.view_is
     (number_looks i.functions.functions _ i.probes c.find.new.probes
-    (kept_are i.main.unit i.load i.first i.functions i.probes.name
+    (kept_are i.main.counted.unit i.load i.first i.functions i.probes.name
     c.self.invariant.load_is c.self.invariant.functions_are)
     c.find.ensures.cost)

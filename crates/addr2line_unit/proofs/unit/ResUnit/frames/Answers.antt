@@ -21,7 +21,7 @@ returns g c =
     subst P
     (ap (λ f. frames_by_numbers (option_map (λ l. l.0) i.language) files place f numbers)
     (function_is_any i.functions _ c.args.function
-    (kept_are i.main.unit i.load i.first i.functions i.probes.name
+    (kept_are i.main.counted.unit i.load i.first i.functions i.probes.name
     c.self.invariant.load_is c.self.invariant.functions_are)
     c.self.invariant.functions_are.count_is)
     ∙ ap (λ (u : ResolvedUnit).

@@ -9,7 +9,7 @@ returns-clause-functions g c = λ kept.
     let i = c.self.inside in
     c.count.ensures
     ∙ count_is i.functions _
-    (kept_are i.main.unit i.load i.first i.functions i.probes.name
+    (kept_are i.main.counted.unit i.load i.first i.functions i.probes.name
     c.self.invariant.load_is c.self.invariant.functions_are)
     c.self.invariant.functions_are.count_is (ap (λ (u : ResolvedUnit). u.keeps_functions) c.self.view_is ∙ kept)
     ∙ ap (λ (u : ResolvedUnit). count_of_functions (functions_of u.value)) c.self.view_is

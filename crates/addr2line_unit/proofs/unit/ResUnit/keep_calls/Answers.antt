@@ -1,7 +1,7 @@
-use Rattle.std.proofs.Common.{◌≡◌, ℕ, IfOk, sym, ap, subst}
+use Rattle.std.proofs.Common.{◌≡◌, ℕ, IfOk, sym, ap, ◌∙◌, subst}
 use Rattle.addr2line_unit.specs.ResolvedUnits.{ResolvedUnit}
 use Rattle.addr2line_unit.proofs.FunctionParses.{keeps_calls_after}
-use Rattle.addr2line_unit.proofs.KeptParses.{keeps_functions}
+use Rattle.addr2line_unit.proofs.KeptParses.{keeps_functions, same_functions}
 use Rattle.addr2line_unit.proofs.ResolvedViews.{with_calls_after}
 use Rattle.addr2line_unit.proofs.unit.ResUnit.keep_calls.Goals as goal
 
@@ -16,7 +16,12 @@ invariant_of-self g c =
     let new = c.keep_calls.new.self in
     let P : ℕ → Type 0 = λ n. IfOk c.args.read (λ x. x.counter ≡ n) in
     keeps_functions i.main i.load i.first i.lines i.functions new i.probes.name c.self.invariant
-    (keeps_calls_after i.main.unit i.load i.first i.functions new i.probes.name c.args.function c.args.read
+    (keeps_calls_after i.main.counted.unit i.load i.first i.functions new i.probes.name c.args.function c.args.read
     c.keep_calls.result c.keep_calls.ensures.ok c.keep_calls.ensures.err
     (subst P (sym (ap (λ (u : ResolvedUnit). u.probes.name) c.self.view_is)) c.requires.counter)
     c.self.invariant.functions_are)
+    (λ kept.
+    c.self.invariant.is_whole
+    (sym (same_functions i.functions new c.args.function c.args.read c.keep_calls.result c.keep_calls.ensures.ok
+    c.keep_calls.ensures.err)
+    ∙ kept))

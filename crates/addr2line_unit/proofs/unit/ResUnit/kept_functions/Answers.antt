@@ -11,6 +11,6 @@ returns g c =
     map-now plain_functions c.functions.result
     ∙ ap (option_map plain_functions) c.functions.ensures
     ∙ kept_functions_are i.functions.functions _
-    (kept_are i.main.unit i.load i.first i.functions i.probes.name
+    (kept_are i.main.counted.unit i.load i.first i.functions i.probes.name
     c.self.invariant.load_is c.self.invariant.functions_are)
     ∙ ap (λ (u : ResolvedUnit). if_kept u.keeps_functions (functions_of u.value)) c.self.view_is

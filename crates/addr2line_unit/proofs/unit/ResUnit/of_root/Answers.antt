@@ -1,4 +1,4 @@
-use Rattle.std.proofs.Common.{◌∙◌, ap, sym, subst}
+use Rattle.std.proofs.Common.{sym, subst}
 use Rattle.std.proofs.lemmas.Result.{err_from_is_err_and}
 use Rattle.addr2line_functions.specs.FirstAnswers.{load_of}
 use Rattle.addr2line_root.specs.CountedRuns.{without_runs}
@@ -18,9 +18,10 @@ invariant_of-result g c =
     let counter = c.args.probes.name in
     keeps_new u root.ranges.value.items counter c.in_ok-load.load root.lines c.in_ok-lines.lines
     c.not_read.result c.in_ok-lines.ensures.ok
-    (subst (λ (r : RootFacts). RunsForRanges counter r.ranges r.lines (without_runs u) u) (sym c.root.view_is)
+    (subst (λ (r : RootFacts). RunsForRanges counter r.ranges r.lines
+    (without_runs u.counted) u.counted) (sym c.root.view_is)
     c.requires)
-    (load_made c.in_ok-load.load (load_of c.unit.result.now) c.in_ok-load.ensures ∙ ap load_of c.unit.ensures)
+    (load_made c.in_ok-load.load (load_of u.counted.unit) c.in_ok-load.ensures)
     c.not_read.ensures
 
 pub returns-clause-lines : goal.returns-clause-lines
@@ -29,5 +30,6 @@ returns-clause-lines g c =
     let root = c.root.inside in
     let counter = c.args.probes.name in
     ranges_new u root.ranges.value.items counter root.lines c.in_ok-lines.lines c.in_ok-lines.ensures.ok
-    (subst (λ (r : RootFacts). RunsForRanges counter r.ranges r.lines (without_runs u) u) (sym c.root.view_is)
+    (subst (λ (r : RootFacts). RunsForRanges counter r.ranges r.lines
+    (without_runs u.counted) u.counted) (sym c.root.view_is)
     c.requires)

@@ -18,6 +18,6 @@ returns-clause-functions g c =
     let P : Result (List Function) Error → Type 0 =
     λ m. ReturnsAsOrNoMemory (λ (f : CountedFunctions). f.functions) c.functions_of_unit.result m in
     subst P
-    (sym (ap (λ (r : Result HoldingUnit Error). and_then r (λ h. functions_of_unit h.unit)) c.in_ok-holder.ensures
+    (sym (ap (λ (r : Result HoldingUnit Error). and_then r (λ h. functions_of_unit h.unit)) c.in_ok-holder.ensures.unit
     ∙ ap (λ (h : HoldingUnit). functions_of_unit h.unit) (sym c.holder.view_is)))
     c.functions_of_unit.ensures.functions

@@ -24,13 +24,14 @@ returns-in-Some-clause-calls g c =
     let Q : Result (List Function) Error → Type 0 = λ m. IsKeptOf m (option_map plain_functions k.functions) in
     let kept =
     subst Q (ap (λ (u : ResolvedUnit). functions_of u.value) c.self.view_is)
-    (kept_are i.main.unit i.load i.first k i.probes.name c.self.invariant.load_is c.self.invariant.functions_are) in
+    (kept_are i.main.counted.unit i.load i.first k i.probes.name c.self.invariant.load_is
+    c.self.invariant.functions_are) in
     let many : length k.calls ≡ length c.args.self.now.calls =
     sym (length-map k.calls (option_map plain_calls)) ∙ ap (λ (u : ResolvedUnit). length u.calls) c.self.view_is in
     let below : n < length k.calls = omega (arith, many, c.requires) in
     subst P
     (sym (calls_are k naming n c.in_ok-holder.holder (unit_of_functions (main_unit v) (first_answer v))
-    c.in_ok-holder.ensures kept c.self.invariant.functions_are.count_is below
+    c.in_ok-holder.ensures.unit kept c.self.invariant.functions_are.count_is below
     ∙ calls_at_offset c.in_ok-holder.holder.unit naming (kept_function_in k.functions n) offset c.in-Some.ensures
     ∙ ap (λ (h : HoldingUnit). calls_of_function h.unit naming offset) (sym c.holder.view_is)))
     c.calls_of_function.ensures.function

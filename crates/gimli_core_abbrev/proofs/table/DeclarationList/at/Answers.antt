@@ -23,19 +23,19 @@ part_in part b e same is = is ∙ ap (λ (list : List AttributeSpecification). s
 
 pub index-stored-requires : goal.index-stored-requires
 index-stored-requires c =
-    let within = stored_within c.args.place c.args.code c.self.invariant.0 c.self.view_is c.requires in
+    let within = stored_within c.args.place c.args.code c.self.invariant.0 c.self.view_is c.requires.there in
     omega (arith, within)
 
 pub begin_of-begin-requires : goal.begin_of-begin-requires
 begin_of-begin-requires c =
-    let within = stored_within c.args.place c.args.code c.self.invariant.0 c.self.view_is c.requires in
+    let within = stored_within c.args.place c.args.code c.self.invariant.0 c.self.view_is c.requires.there in
     let same = ap (λ (ds : List StoredDeclaration). length ds) c.as_slice-declarations.ensures.value in
     omega (arith, within, same)
 
 pub between-attributes-requires : goal.between-attributes-requires
 between-attributes-requires c =
     let d = c.index-stored.result.now in
-    let there = stored_there c.args.place c.args.code d c.self.invariant.0 c.self.view_is c.requires
+    let there = stored_there c.args.place c.args.code d c.self.invariant.0 c.self.view_is c.requires.there
     c.index-stored.ensures in
     let begin = begin_in c.begin_of-begin.result c.args.place c.as_slice-declarations.ensures.value
     c.begin_of-begin.ensures in
@@ -46,14 +46,18 @@ between-attributes-requires c =
 pub of_parts-requires : goal.of_parts-requires
 of_parts-requires c =
     let d = c.index-stored.result.now in
-    let there = stored_there c.args.place c.args.code d c.self.invariant.0 c.self.view_is c.requires
+    let there = stored_there c.args.place c.args.code d c.self.invariant.0 c.self.view_is c.requires.there
     c.index-stored.ensures in
     let begin = begin_in c.begin_of-begin.result c.args.place c.as_slice-declarations.ensures.value
     c.begin_of-begin.ensures in
     let part = part_in c.between-attributes.result.now c.begin_of-begin.result d.end c.as_slice-all.ensures.value
     c.between-attributes.ensures in
-    subst (λ (list : List AttributeSpecification). KnowsAttributes d.head (map attribute_view list)) (sym part)
-    (known_at c.args.place c.begin_of-begin.result d c.self.invariant.0 there begin)
+    record {
+      code = c.requires.code;
+      knows =
+          subst (λ (list : List AttributeSpecification). KnowsAttributes d.head (map attribute_view list)) (sym part)
+          (known_at c.args.place c.begin_of-begin.result d c.self.invariant.0 there begin);
+    }
 
 abbrev some_declaration : Declaration → Option Declaration
 some_declaration d = Some d
@@ -62,7 +66,7 @@ pub returns : goal.returns
 returns c =
     let i = c.self.inside in
     let d = c.index-stored.result.now in
-    let there = stored_there c.args.place c.args.code d c.self.invariant.0 c.self.view_is c.requires
+    let there = stored_there c.args.place c.args.code d c.self.invariant.0 c.self.view_is c.requires.there
     c.index-stored.ensures in
     let begin = begin_in c.begin_of-begin.result c.args.place c.as_slice-declarations.ensures.value
     c.begin_of-begin.ensures in
@@ -71,7 +75,7 @@ returns c =
     ap (λ (ds : List Declaration). slice_get ds c.args.place) (sym c.self.view_is)
     ∙ stored_is i.in_order i.others.items i.attributes.items i.declarations.items c.args.place c.args.code
     c.begin_of-begin.result d
-    (ap (λ (ds : List Declaration). code_in (slice_get ds c.args.place)) c.self.view_is ∙ c.requires) there begin
+    (ap (λ (ds : List Declaration). code_in (slice_get ds c.args.place)) c.self.view_is ∙ c.requires.there) there begin
     ∙ ap (λ (list : List AttributeSpecification).
     some_declaration (declaration_of_parts c.args.code d.head (map attribute_view list))) (sym part)
     ∙ ap some_declaration (sym c.of_parts.ensures)

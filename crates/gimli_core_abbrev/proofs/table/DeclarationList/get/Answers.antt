@@ -17,9 +17,14 @@ pub at-requires : goal.at-requires
 at-requires c =
     let i = c.self.inside in
     let there : get nat_cmp i.places c.args.code ≡ Some c.in-Some.place.now = search rules in
-    ap (λ (ds : List Declaration). code_in (slice_get ds c.in-Some.place.now)) (sym c.self.view_is)
-    ∙ code_elsewhere (stored i.in_order i.others.items i.attributes.items i.declarations.items) i.in_order
-    (get nat_cmp i.places) c.self.invariant.1 c.args.code c.in-Some.place.now (omega (arith, c.if-self-code.true)) there
+    record {
+      code = omega (arith, c.if-self-code.true);
+      there =
+          ap (λ (ds : List Declaration). code_in (slice_get ds c.in-Some.place.now)) (sym c.self.view_is)
+          ∙ code_elsewhere (stored i.in_order i.others.items i.attributes.items i.declarations.items) i.in_order
+          (get nat_cmp i.places) c.self.invariant.1 c.args.code c.in-Some.place.now
+          (omega (arith, c.if-self-code.true)) there;
+    }
 
 pub returns-then-from-place : goal.returns-then-from-place
 returns-then-from-place c =
@@ -51,10 +56,14 @@ returns-in-None c =
 pub at-requires-then-from-code : goal.at-requires-then-from-code
 at-requires-then-from-code c =
     let i = c.self.inside in
-    ap (λ (ds : List Declaration). code_in (slice_get ds (c.args.code - 1))) (sym c.self.view_is)
-    ∙ code_in_order (stored i.in_order i.others.items i.attributes.items i.declarations.items) i.in_order
-    (get nat_cmp i.places) c.self.invariant.1 c.args.code (omega (arith, c.if-from-code.true))
-    (omega (arith, c.if-self-code.false))
+    record {
+      code = omega (arith, c.if-from-code.true);
+      there =
+          ap (λ (ds : List Declaration). code_in (slice_get ds (c.args.code - 1))) (sym c.self.view_is)
+          ∙ code_in_order (stored i.in_order i.others.items i.attributes.items i.declarations.items) i.in_order
+          (get nat_cmp i.places) c.self.invariant.1 c.args.code (omega (arith, c.if-from-code.true))
+          (omega (arith, c.if-self-code.false));
+    }
 
 pub returns-then-from-code : goal.returns-then-from-code
 returns-then-from-code c =
