@@ -118,8 +118,8 @@ impl<R: Reader> Units<R> {
     }
 
     // The next stretch of a walk. The lines of the units that it asks are read, unless they are
-    // kept, and kept; else it takes no memory. It takes three looks at what is kept at most, besides
-    // those that are no longer left to the walk.
+    // kept, and kept; else it takes no memory. It takes three looks at what is kept at most,
+    // besides those that are no longer left to the walk.
     pub fn next_stretch(&mut self, walk: &mut RangeWalk) -> Result<Option<UnitStretch>, Error>
         ensures values { map value_of_unit self.new ≡ map value_of_unit self.old }
         ensures calls { LeavesCalls self.old self.new }

@@ -362,8 +362,8 @@ impl<R: Reader> ResUnit<R> {
         row_in_kept(&self.lines, probe, &mut self.probes)
     }
 
-    /// Where a walk over the rows of the lines that are kept begins, from a low end on; at none where
-    /// they are refused. It is one search among the sequences.
+    /// Where a walk over the rows of the lines that are kept begins, from a low end on; at none
+    /// where they are refused. It is one search among the sequences.
     pub fn cursor_from(&mut self, low: u64) -> Option<LineCursor>
         ensures unit { self.new ≡ with_probes self.old self.new.probes }
         ensures rows { KeepsLines self.old

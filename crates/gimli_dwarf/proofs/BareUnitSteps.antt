@@ -128,7 +128,8 @@ module _ (file : DwarfFile) (u : DebugUnit) where
   bare-refused_table (Err d) e h = let same : d ≡ e = cc in ap (λ (x : Error). Err x) same
 
   -- over that declaration alone the root is the same
-  root_over : (t ds : List Declaration) → alone (Ok t) ≡ Ok ds → root file.offset_limit u t ≡ root file.offset_limit u ds
+  root_over : (t ds : List Declaration) → alone (Ok t) ≡ Ok ds
+      → root file.offset_limit u t ≡ root file.offset_limit u ds
   root_over t ds h =
       let same : root_declarations u t ≡ ds = cc in
       sym (root-of_declarations file.offset_limit u t) ∙ ap (root file.offset_limit u) same

@@ -112,7 +112,8 @@ module _ (file : DwarfFile) (u : UnitFacts) where
   with_table table = and_then (root file.offset_limit u.header table) (with_row table)
 
   by_declarations : (table : List Declaration)
-      → table_at u.header.abbrev_offset file.sections.debug_abbrev ≡ ok_table table → with_parts file u ≡ with_table table
+      → table_at u.header.abbrev_offset file.sections.debug_abbrev ≡ ok_table table
+      → with_parts file u ≡ with_table table
   by_declarations table is = ap (λ r. and_then r with_table) is
 
   by_first_entry : (limit : ℕ) (table : List Declaration) (r : Result Row Error) → file.offset_limit ≡ limit

@@ -215,8 +215,8 @@ impl<R: Reader> Dwarf<R> {
         self.abbreviations_cache.get(alloc, section, offset)
     }
 
-    // The table of the root's declaration alone, or of none, where the unit's table hasn't its code.
-    // The unit's table is checked, from the cache if it is there.
+    // The table of the root's declaration alone, or of none, where the unit's table hasn't its
+    // code. The unit's table is checked, from the cache if it is there.
     pub(crate) fn root_declarations(
         &self,
         alloc: Global,
