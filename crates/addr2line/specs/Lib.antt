@@ -111,6 +111,7 @@ pub use Rattle.addr2line_spec.specs.SuspensionLaws
 pub use Rattle.addr2line_root.specs.CountedRuns
 pub use Rattle.gimli_dwarf.specs.Attributes
 pub use Rattle.gimli_dwarf.specs.CachedFiles
+pub use Rattle.gimli_dwarf.specs.CheckedTables
 pub use Rattle.gimli_dwarf.specs.ListSections
 pub use Rattle.gimli_dwarf.specs.NumberParsers
 pub use Rattle.gimli_dwarf.specs.Parsers

@@ -36,9 +36,9 @@ use crate::outcomes::memory_alone;
 use crate::progress::Progress;
 use crate::runs::runs_at;
 use addr2line_lookups::{
-    AbbreviationsCacheStrategy, ArangeIndex, Dwarf, Error, FramePlace, Location, RangeWalk, Reader,
-    Runs, Settled, SplitDwarfLoad, Unit, UnitStretch, UnitToken, Units, frame_without_function,
-    units_of_file, units_of_supplement,
+    ArangeIndex, Dwarf, Error, FramePlace, Location, RangeWalk, Reader, Runs, Settled,
+    SplitDwarfLoad, Unit, UnitStretch, UnitToken, Units, frame_without_function, units_of_file,
+    units_of_supplement,
 };
 use std::alloc::Global;
 use std::marker::Model;
@@ -102,9 +102,10 @@ impl<R: Reader> Context<R> {
     ghost use Rattle.std.specs.Io.BufRead.{Rests};
     ghost use Rattle.addr2line_context.specs.contracts.context.Context.{the_row};
 
-    /// The context of a file's sections. It reads the abbreviation tables of the file's units
-    /// first, once each, and keeps them for the units; what they have in common is kept once. It
-    /// takes memory for them and for what shares the sections, and else is `from_arc_dwarf`.
+    /// The context of a file's sections. It goes through the abbreviation tables of the file's units
+    /// first, once each, and keeps those that units share, what these have in common once; of each
+    /// other it keeps the declaration of the unit's root. It takes memory for them and for what shares
+    /// the sections, and else is `from_arc_dwarf`.
     pub fn from_dwarf(alloc: Global, sections: Dwarf<R>) -> Result<Self, Error>
         ensures context { ReturnsAsOrNoMemory (λ c. c.value.plain) result
             (file_context sections.file) }
@@ -112,7 +113,7 @@ impl<R: Reader> Context<R> {
         ensures lines { IfOk result (λ c. RunForRangesAlone c.units) }
     {
         let mut sections = sections;
-        read_tables(alloc, &mut sections)?;
+        sections.share_tables(alloc)?;
         match Rc::new(alloc, sections) {
             Ok(sections) => Context::from_arc_dwarf(alloc, sections),
             Err(_) => Err(Error::Memory),
@@ -477,12 +478,4 @@ impl<R: Reader> Context<R> {
             None => unreachable!(),
         }
     }
-}
-
-// Reads the abbreviation tables of a file's units, once each, and keeps them in its cache.
-fn read_tables<R: Reader>(alloc: Global, sections: &mut Dwarf<R>) -> Result<(), Error>
-    ensures file { OnOk result (sections.new.file ≡ sections.old.file) }
-    ensures memory { IfErr result (λ e. e ≡ Memory) }
-{
-    sections.populate_abbreviations_cache(alloc, AbbreviationsCacheStrategy::All)
 }

@@ -19,12 +19,13 @@ pub mod unit_loads;
 pub mod walk_laws;
 
 pub use addr2line_lookups::{
-    AbbreviationsCache, AbbreviationsCacheStrategy, AttributeValue, DebugAbbrev, DebugAbbrevOffset,
-    DebugAddrIndex, DebugLineStrOffset, DebugRngListsIndex, DebugStrOffset, DebugStrOffsetsIndex,
-    DwLang, Dwarf, DwarfFileType, DwoId, EndianBytes, EndianSlice, Error, Format, Frame, FrameIter,
-    FunctionName, LittleEndian, Location, LocationLists, Range, RangeLists, RangeListsOffset,
-    RangeWalk, RawRangeListsOffset, Reader, RunTimeEndian, Runs, SectionId, SplitDwarfLoad, Unit,
-    UnitLines, UnitOffset, UnitRef, UnitStretch, UnitToken, file_text,
+    AbbreviationsCache, AbbreviationsCacheStrategy, AttributeValue, CheckedTables, DebugAbbrev,
+    DebugAbbrevOffset, DebugAddrIndex, DebugLineStrOffset, DebugRngListsIndex, DebugStrOffset,
+    DebugStrOffsetsIndex, DwLang, Dwarf, DwarfFileType, DwoId, EndianBytes, EndianSlice, Error,
+    Format, Frame, FrameIter, FunctionName, LittleEndian, Location, LocationLists, Range,
+    RangeLists, RangeListsOffset, RangeWalk, RawRangeListsOffset, Reader, RunTimeEndian, Runs,
+    SectionId, SplitDwarfLoad, Unit, UnitLines, UnitOffset, UnitRef, UnitStretch, UnitToken,
+    file_text,
 };
 pub use context::Context;
 pub use find_frames::FindFrames;

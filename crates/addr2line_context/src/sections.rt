@@ -10,9 +10,9 @@ ghost use Rattle.addr2line_context.specs.MainFiles.{main_file};
 
 use crate::context::Context;
 use addr2line_lookups::{
-    AbbreviationsCache, DebugAbbrev, DebugAddr, DebugAranges, DebugInfo, DebugLine, DebugLineStr,
-    DebugRanges, DebugRngLists, DebugStr, DebugStrOffsets, Dwarf, DwarfFileType, Error,
-    LocationLists, RangeLists, Reader,
+    AbbreviationsCache, CheckedTables, DebugAbbrev, DebugAddr, DebugAranges, DebugInfo, DebugLine,
+    DebugLineStr, DebugRanges, DebugRngLists, DebugStr, DebugStrOffsets, Dwarf, DwarfFileType,
+    Error, LocationLists, RangeLists, Reader,
 };
 use std::alloc::Global;
 
@@ -89,6 +89,7 @@ impl<R: Reader> Context<R> {
             file_type: DwarfFileType::Main,
             sup: None,
             abbreviations_cache: AbbreviationsCache::new(alloc),
+            checked_tables: CheckedTables::new(alloc),
         };
         Context::from_dwarf(alloc, sections)
     }

@@ -21,8 +21,8 @@ mod walk;
 
 pub use addr2line_names::{DebugFile, HasUnit, HoldingUnit, KnownUnits};
 pub use addr2line_ranges::{
-    AbbreviationsCache, AbbreviationsCacheStrategy, AttributeValue, DebugAbbrev, DebugAbbrevOffset,
-    DebugAddr, DebugAddrIndex, DebugAranges, DebugInfo, DebugLine, DebugLineStr,
+    AbbreviationsCache, AbbreviationsCacheStrategy, AttributeValue, CheckedTables, DebugAbbrev,
+    DebugAbbrevOffset, DebugAddr, DebugAddrIndex, DebugAranges, DebugInfo, DebugLine, DebugLineStr,
     DebugLineStrOffset, DebugRanges, DebugRngLists, DebugRngListsIndex, DebugStr, DebugStrOffset,
     DebugStrOffsets, DebugStrOffsetsIndex, DwLang, Dwarf, DwarfFileType, DwoId, EndianBytes,
     EndianSlice, Error, Format, LineCursor, LineIndex, LittleEndian, Location, LocationLists,

@@ -6,7 +6,6 @@ use Rattle.addr2line_context.specs.DwarfFiles.{DwarfFile}
 use Rattle.addr2line_context.specs.Error.{Error}
 use Rattle.addr2line_context.specs.FirstAnswers.{FirstAnswers, no_answers}
 use Rattle.addr2line_context.specs.Results.{and_then, ◌>>=◌}
-use Rattle.addr2line_split.specs.CachedFiles.{CachedFile, cached_file, table_offsets}
 use Rattle.addr2line_split.specs.ElfImages.{Image, image_of}
 use Rattle.addr2line_split.specs.ElfSymbols.{NamedSymbol, symbols_of}
 use Rattle.addr2line_split.specs.ImageFiles.{main_file}
@@ -14,15 +13,13 @@ use Rattle.addr2line_split.specs.LoadErrors.{load_error_of}
 use Rattle.addr2line_split.specs.LoadError.{LoadError}
 use Rattle.addr2line_split.specs.Range.{Range}
 use Rattle.addr2line_split.specs.SectionLoading.{with_supplement}
-use Rattle.addr2line_split.specs.TableCache.{tables_at}
 
--- An ELF file that is loaded: its symbols, its sections of debugging information with the
--- abbreviation tables that are kept, the context over them, and the first answers to the loads of
--- its split units so far.
+-- An ELF file that is loaded: its symbols, its sections of debugging information, the context over
+-- them, and the first answers to the loads of its split units so far.
 pub record LoadedFile : Type 0 where
   pub image : Image
   pub symbols : List NamedSymbol
-  pub sections : CachedFile
+  pub sections : DwarfFile
   pub context : FileContext
   pub answers : FirstAnswers
 
@@ -40,11 +37,6 @@ abbrev pub with_supplement_if_any : Option (List ℕ) → DwarfFile → Result D
 with_supplement_if_any None file = Ok file
 with_supplement_if_any (Some bytes) file = with_supplement_in bytes file
 
--- a file with the abbreviation tables of its units, which share them
-abbrev pub with_shared_tables : DwarfFile → CachedFile
-with_shared_tables file =
-    cached_file file (tables_at (table_offsets file) file.sections.debug_abbrev)
-
 -- ---- files
 
 -- an error of the debugging information as one of loading
@@ -52,20 +44,16 @@ abbrev pub or_load_error : {A : Type 0} → Result A Error → Result A LoadErro
 or_load_error (Ok x) = Ok x
 or_load_error (Err e) = Err (load_error_of e)
 
--- a file's sections, with the abbreviation tables that are kept, and the context over them
+-- a file's sections, and the context over them
 pub record SharedContext : Type 0 where
-  pub sections : CachedFile
+  pub sections : DwarfFile
   pub context : FileContext
 
 -- the context over sections, which keeps them
-abbrev pub context_over : CachedFile → Result SharedContext LoadError
-context_over sections = do
-  context ← or_load_error (file_context sections.file)
-  Ok (record { sections = sections; context = context })
-
--- the context over a file's sections, with the tables of its units
 abbrev pub shared_context : DwarfFile → Result SharedContext LoadError
-shared_context file = context_over (with_shared_tables file)
+shared_context sections = do
+  context ← or_load_error (file_context sections)
+  Ok (record { sections = sections; context = context })
 
 -- the symbols of an image, and the context over its sections
 pub record ImageParts : Type 0 where

@@ -8,6 +8,7 @@ ghost use Rattle.addr2line_context.specs.Contexts.{location, stretches};
 ghost use Rattle.addr2line_context.specs.Error.TheVariants.{Memory};
 ghost use Rattle.addr2line_context.specs.KeptUnits.{KeepsAsked};
 ghost use Rattle.addr2line_context.specs.ResolvedUnits.{RunForRangesAlone};
+ghost use Rattle.addr2line_split.specs.CachedFiles.{SharesTables};
 ghost use Rattle.addr2line_split.specs.ElfImages.{section_range};
 ghost use Rattle.addr2line_split.specs.ElfSymbols.{symbol_at};
 ghost use Rattle.addr2line_split.specs.FileParts.{bytes_if_any};
@@ -47,6 +48,7 @@ impl Drop for Loader {
 }
 
 impl Model for Loader {
+    ghost use Rattle.addr2line_split.specs.CachedFiles.{SharesTables};
     ghost use Rattle.addr2line_loader.specs.ResolvedFiles.{ResolvedFile};
 
     ghost Value = { ResolvedFile };
@@ -55,12 +57,14 @@ impl Model for Loader {
       file = record {
         image = l.elf;
         symbols = l.symbols;
-        sections = l.sections.value;
+        sections = l.sections.value.file;
         context = l.context.value.plain;
         answers = l.context.value.answers;
       };
       units = l.context.units;
     } };
+
+    ghost invariant = { λ l. SharesTables l.sections.value };
 }
 
 impl Loader {
@@ -70,8 +74,8 @@ impl Loader {
 
     /// Loads the file of some bytes, and its supplement, if there is one. It shares the bytes, and
     /// takes memory for its sections, its symbols, its units and the abbreviation tables that
-    /// these share, each of which is read once. The lines of a unit are read here only where its
-    /// ranges are those of its lines.
+    /// these share, each of which is read once; the others are only checked. The lines of a unit
+    /// are read here only where its ranges are those of its lines.
     pub fn from_bytes(
         alloc: Global,
         image: Bytes,
@@ -107,9 +111,10 @@ impl Loader {
     }
 
     /// The file's sections of debugging information, which the context shares. Their cache has the
-    /// abbreviation tables of the file's units, each once.
+    /// abbreviation tables that at least two of the file's units share, each once.
     pub fn sections(&self) -> &Rc<Dwarf<ImageReader>>
-        ensures { result.now.value ≡ self.now.file.sections }
+        ensures file { result.now.value.file ≡ self.now.file.sections }
+        ensures tables { SharesTables result.now.value }
     {
         &self.sections
     }

@@ -1,17 +1,17 @@
 //! What an ELF file is made into, step by step. A step that is refused hands what it was given to
 //! `refusal`, which drops it in one place.
 
-ghost use Rattle.std.specs.Prelude.{◌≡◌, OnOk, IfErr, IfOk, Ok, Err};
+ghost use Rattle.std.specs.Prelude.{◌≡◌, IfOk, Ok, Err};
 ghost use Rattle.addr2line_context.specs.AnsweredContexts.{HasNoAnswers};
-ghost use Rattle.addr2line_context.specs.Error.TheVariants.{Memory};
 ghost use Rattle.addr2line_context.specs.ResolvedUnits.{RunForRangesAlone};
 ghost use Rattle.addr2line_context.specs.Results.{and_then};
+ghost use Rattle.addr2line_split.specs.CachedFiles.{SharesTables};
 ghost use Rattle.addr2line_split.specs.FileParts.{bytes_if_any};
 ghost use Rattle.addr2line_split.specs.ImageLoading.{LoadsAsOrNoMemory};
-ghost use Rattle.addr2line_loader.specs.LoadedFiles.{with_supplement_if_any, with_shared_tables, parts_with, parts_of, context_over, shared_context};
+ghost use Rattle.addr2line_loader.specs.LoadedFiles.{with_supplement_if_any, parts_with, parts_of, shared_context};
 
 use crate::sections::{add_supplement, main_sections};
-use addr2line_context::{AbbreviationsCacheStrategy, Context, Dwarf, Error, Reader};
+use addr2line_context::{Context, Dwarf, Reader};
 use addr2line_split::{Elf, FileParts, ImageReader, LoadError, Symbols};
 use std::alloc::Global;
 use std::rc::Rc;
@@ -39,10 +39,11 @@ pub(crate) fn parts_of(
     ensures parts { LoadsAsOrNoMemory (λ p. record {
       symbols = p.symbols;
       debug = record {
-        sections = p.debug.sections.value;
+        sections = p.debug.sections.value.file;
         context = p.debug.context.value.plain;
       };
     }) result (parts_of elf.now (bytes_if_any supplement)) }
+    ensures tables { IfOk result (λ p. SharesTables p.debug.sections.value) }
     ensures answers { IfOk result (λ p. HasNoAnswers p.debug.context.value) }
     ensures lines { IfOk result (λ p. RunForRangesAlone p.debug.context.units) }
 {
@@ -62,10 +63,11 @@ fn parts_with(
     ensures parts { LoadsAsOrNoMemory (λ p. record {
       symbols = p.symbols;
       debug = record {
-        sections = p.debug.sections.value;
+        sections = p.debug.sections.value.file;
         context = p.debug.context.value.plain;
       };
     }) result (parts_with elf.now main.file (bytes_if_any supplement)) }
+    ensures tables { IfOk result (λ p. SharesTables p.debug.sections.value) }
     ensures answers { IfOk result (λ p. HasNoAnswers p.debug.context.value) }
     ensures lines { IfOk result (λ p. RunForRangesAlone p.debug.context.units) }
 {
@@ -85,8 +87,9 @@ fn context_with(
     supplement: Option<FileParts>,
 ) -> Result<SharedContext<ImageReader>, LoadError>
     ensures context { LoadsAsOrNoMemory
-        (λ c. record { sections = c.sections.value; context = c.context.value.plain }) result
+        (λ c. record { sections = c.sections.value.file; context = c.context.value.plain }) result
         (and_then (with_supplement_if_any (bytes_if_any supplement) main.file) shared_context) }
+    ensures tables { IfOk result (λ c. SharesTables c.sections.value) }
     ensures answers { IfOk result (λ c. HasNoAnswers c.context.value) }
     ensures lines { IfOk result (λ c. RunForRangesAlone c.context.units) }
 {
@@ -97,31 +100,23 @@ fn context_with(
     }
 }
 
-// The context over a file's sections, which are kept with the abbreviation tables of their units.
+// The context over a file's sections, which are kept with the abbreviation tables that units share.
 fn shared_context<R: Reader>(
     alloc: Global,
     sections: Dwarf<R>,
 ) -> Result<SharedContext<R>, LoadError>
     ensures context { LoadsAsOrNoMemory
-        (λ c. record { sections = c.sections.value; context = c.context.value.plain }) result
+        (λ c. record { sections = c.sections.value.file; context = c.context.value.plain }) result
         (shared_context sections.file) }
+    ensures tables { IfOk result (λ c. SharesTables c.sections.value) }
     ensures answers { IfOk result (λ c. HasNoAnswers c.context.value) }
     ensures lines { IfOk result (λ c. RunForRangesAlone c.context.units) }
 {
     let mut dwarf = sections;
-    match share_tables(alloc, &mut dwarf) {
+    match dwarf.share_tables(alloc) {
         Ok(()) => context_over(alloc, Rc::new(alloc, dwarf)?),
         Err(error) => refusal(dwarf, LoadError::from(error)),
     }
-}
-
-// Reads the abbreviation tables of a file's units, once each, and keeps them, so that units share
-// what their tables have in common.
-fn share_tables<R: Reader>(alloc: Global, dwarf: &mut Dwarf<R>) -> Result<(), Error>
-    ensures tables { OnOk result (dwarf.new ≡ with_shared_tables dwarf.old.file) }
-    ensures memory { IfErr result (λ e. e ≡ Memory) }
-{
-    dwarf.populate_abbreviations_cache(alloc, AbbreviationsCacheStrategy::All)
 }
 
 // The context over sections, which shares them.
@@ -130,8 +125,9 @@ fn context_over<R: Reader>(
     sections: Rc<Dwarf<R>>,
 ) -> Result<SharedContext<R>, LoadError>
     ensures context { LoadsAsOrNoMemory
-        (λ c. record { sections = c.sections.value; context = c.context.value.plain }) result
-        (context_over sections.value) }
+        (λ c. record { sections = c.sections.value.file; context = c.context.value.plain }) result
+        (shared_context sections.value.file) }
+    ensures sections { IfOk result (λ c. c.sections.value ≡ sections.value) }
     ensures answers { IfOk result (λ c. HasNoAnswers c.context.value) }
     ensures lines { IfOk result (λ c. RunForRangesAlone c.context.units) }
 {

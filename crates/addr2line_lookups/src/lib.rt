@@ -20,13 +20,13 @@ pub mod units;
 mod waiting;
 
 pub use addr2line_unit::{
-    AbbreviationsCache, AbbreviationsCacheStrategy, ArangeIndex, AttributeValue, DebugAbbrev,
-    DebugAbbrevOffset, DebugAddr, DebugAddrIndex, DebugAranges, DebugInfo, DebugLine, DebugLineStr,
-    DebugLineStrOffset, DebugRanges, DebugRngLists, DebugRngListsIndex, DebugStr, DebugStrOffset,
-    DebugStrOffsets, DebugStrOffsetsIndex, DwLang, Dwarf, DwarfFileType, DwoId, EndianBytes,
-    EndianSlice, Error, Format, Frame, FrameIter, FunctionName, LittleEndian, Location,
-    LocationLists, Range, RangeLists, RangeListsOffset, RawRangeListsOffset, Reader, ResUnit,
-    RunTimeEndian, Runs, SectionId, SplitDwarfLoad, Unit, UnitLines, UnitOffset, UnitRef,
+    AbbreviationsCache, AbbreviationsCacheStrategy, ArangeIndex, AttributeValue, CheckedTables,
+    DebugAbbrev, DebugAbbrevOffset, DebugAddr, DebugAddrIndex, DebugAranges, DebugInfo, DebugLine,
+    DebugLineStr, DebugLineStrOffset, DebugRanges, DebugRngLists, DebugRngListsIndex, DebugStr,
+    DebugStrOffset, DebugStrOffsets, DebugStrOffsetsIndex, DwLang, Dwarf, DwarfFileType, DwoId,
+    EndianBytes, EndianSlice, Error, Format, Frame, FrameIter, FunctionName, LittleEndian,
+    Location, LocationLists, Range, RangeLists, RangeListsOffset, RawRangeListsOffset, Reader,
+    ResUnit, RunTimeEndian, Runs, SectionId, SplitDwarfLoad, Unit, UnitLines, UnitOffset, UnitRef,
     file_text, frame_without_function, units_of_file, units_of_supplement,
 };
 pub use covering::next_covering;

@@ -58,7 +58,9 @@ impl<'a, R: Reader> HoldingUnit<'a, R> {
         }
     }
 
-    // The naming by attributes. Nothing is read after a linkage name.
+    // The naming by attributes. Nothing is read after a linkage name. Compiled by itself, so that
+    // the reading of an attribute stays inlined in it.
+    #[inline(never)]
     fn naming_in(
         &self,
         mut entries: EntriesRaw<'_, R>,

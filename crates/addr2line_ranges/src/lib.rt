@@ -25,12 +25,13 @@ pub use gimli_dwarf::{
     LocationLists, RangeLists, Unit, UnitRef,
 };
 pub use gimli_lines_rows::{
-    AbbreviationsCache, AbbreviationsCacheStrategy, Attribute, AttributeValue, DW_AT_language,
-    DebugAbbrev, DebugAbbrevOffset, DebugAddr, DebugAddrIndex, DebugAranges, DebugInfo, DebugLine,
-    DebugLineStr, DebugLineStrOffset, DebugRngListsIndex, DebugStr, DebugStrOffset,
-    DebugStrOffsets, DebugStrOffsetsIndex, DwLang, DwarfFileType, DwoId, EndianBytes, EndianSlice,
-    Error, Format, LittleEndian, Range, RangeListsOffset, RawRangeListsOffset, Reader,
-    ReaderOffset, RunTimeEndian, SectionId, UnitHeader, UnitOffset, UnitType,
+    AbbreviationsCache, AbbreviationsCacheStrategy, Attribute, AttributeValue, CheckedTables,
+    DW_AT_language, DebugAbbrev, DebugAbbrevOffset, DebugAddr, DebugAddrIndex, DebugAranges,
+    DebugInfo, DebugLine, DebugLineStr, DebugLineStrOffset, DebugRngListsIndex, DebugStr,
+    DebugStrOffset, DebugStrOffsets, DebugStrOffsetsIndex, DwLang, DwarfFileType, DwoId,
+    EndianBytes, EndianSlice, Error, Format, LittleEndian, Range, RangeListsOffset,
+    RawRangeListsOffset, Reader, ReaderOffset, RunTimeEndian, SectionId, UnitHeader, UnitOffset,
+    UnitType,
 };
 pub use last_list::LastList;
 pub use push::push_if_any;

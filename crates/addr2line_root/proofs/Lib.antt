@@ -6,7 +6,6 @@ mod FileTextLemmas
 mod RootLemmas
 pub mod KeptUnits
 pub mod ReadUnits
-mod MainUnitLemmas
 mod HeaderUnits
 mod SharedPrograms
 mod SharedLines

@@ -6,8 +6,9 @@ ghost use Rattle.addr2line_ranges.specs.Error.TheVariants.{Memory};
 ghost use Rattle.addr2line_ranges.specs.UnitFacts.{in_file};
 ghost use Rattle.addr2line_ranges.specs.UnitLines.{lines_of_unit};
 ghost use Rattle.addr2line_index.specs.LineIndexes.{counted_lines};
-ghost use Rattle.gimli_dwarf.specs.WholeUnits.{IsBareIn, whole_unit};
+ghost use Rattle.gimli_dwarf.specs.WholeUnits.{IsBareIn};
 ghost use Rattle.addr2line_root.specs.CountedRuns.{CountsRun};
+ghost use Rattle.addr2line_root.specs.MainUnits.{unit_of_kept};
 
 use crate::counted_unit::{CountedUnit, Runs};
 use crate::owned_unit::OwnedUnit;
@@ -49,31 +50,34 @@ impl<R: Reader> Model for MainUnit<R> {
 }
 
 impl<R: Reader> MainUnit<R> {
-    /// The unit of which this is kept, whose program was never run. The only refusal is out of
-    /// memory.
-    pub fn new(alloc: Global, sections: Rc<Dwarf<R>>, bare: Unit<R>) -> Result<Self, Error>
-        requires { IsBareIn sections.value.file bare }
+    /// A unit that is whole, or the one of which this bare one is kept. Its program was never run.
+    /// The only refusal is out of memory.
+    pub fn new(
+        alloc: Global,
+        sections: Rc<Dwarf<R>>,
+        unit: Unit<R>,
+        is_whole: bool,
+    ) -> Result<Self, Error>
+        requires { is_whole ≡ false → IsBareIn sections.value.file unit }
         ensures unit { IfOk result (λ u.
-            u.counted.unit ≡ whole_unit (in_file sections.value.file bare)) }
+            u.counted.unit ≡ unit_of_kept is_whole (in_file sections.value.file unit)) }
+        ensures whole { IfOk result (λ u. is_whole ≡ true → u.is_whole ≡ true) }
         ensures runs { IfOk result (λ u. u.counted.runs.count ≡ 0) }
         ensures refusal { IfErr result (λ e. e ≡ Memory) }
     {
-        let has_split_part = bare.dwo_id.is_some();
-        let Ok(unit) = OwnedUnit::new(alloc, sections, bare) else {
+        let has_split_part = unit.dwo_id.is_some();
+        let Ok(unit) = OwnedUnit::new(alloc, sections, unit) else {
             return Err(Error::Memory);
         };
         let mut counted = CountedUnit::new(unit);
-        if has_split_part {
+        if has_split_part && !is_whole {
             counted.make_whole(alloc)?;
             return Ok(MainUnit {
                 counted,
                 is_whole: true,
             });
         }
-        Ok(MainUnit {
-            counted,
-            is_whole: false,
-        })
+        Ok(MainUnit { counted, is_whole })
     }
 
     /// Makes it whole. The only refusal is out of memory.

@@ -3,7 +3,6 @@ pub use Rattle.addr2line_unit.specs.View
 pub use Rattle.addr2line_unit.specs.Range
 pub use Rattle.addr2line_unit.specs.SectionLoading
 pub use Rattle.addr2line_unit.specs.CachedFiles
-pub use Rattle.gimli_dwarf_spec.specs.TableCache
 pub use Rattle.addr2line_elf.specs.ElfDebugSections
 pub use Rattle.addr2line_elf.specs.ElfImages
 pub use Rattle.addr2line_elf.specs.ElfSymbols

@@ -39,8 +39,11 @@ fn code_unit<R: Reader>(
     if is_of_types(&header) {
         return Ok(None);
     }
-    match sections.as_ref().bare_unit_with_root(alloc, header, entry) {
-        Ok(unit) => Ok(Some(MainUnit::new(alloc, share(sections)?, unit)?)),
+    match sections
+        .as_ref()
+        .unit_or_bare_with_root(alloc, header, entry)
+    {
+        Ok((unit, is_whole)) => Ok(Some(MainUnit::new(alloc, share(sections)?, unit, is_whole)?)),
         Err(Error::Memory) => Err(Error::Memory),
         Err(_) => Ok(None),
     }

@@ -23,6 +23,7 @@ pub use Rattle.gimli_core_abbrev.specs.AbbreviationViews
 pub use Rattle.gimli_core_abbrev.specs.TableLayout
 pub use Rattle.gimli_core_abbrev.specs.FormWidths
 pub use Rattle.gimli_core_abbrev.specs.TableCache
+pub use Rattle.gimli_core_abbrev.specs.CheckedTables
 pub use Rattle.gimli_core_abbrev.specs.TableChecks
 pub use Rattle.gimli_core_abbrev.specs.DeclarationEquality
 pub use Rattle.gimli_core_abbrev.specs.DeclarationFacts

@@ -7,6 +7,7 @@ pub use gimli_core_abbrev::Abbreviations;
 pub use gimli_core_abbrev::AbbreviationsCache;
 pub use gimli_core_abbrev::AbbreviationsCacheStrategy;
 pub use gimli_core_abbrev::AttributeSpecification;
+pub use gimli_core_abbrev::CheckedTables;
 pub use gimli_core_abbrev::DebugAbbrev;
 pub use gimli_core_abbrev::OwnedAbbreviation;
 pub use gimli_core_base::BigEndian;

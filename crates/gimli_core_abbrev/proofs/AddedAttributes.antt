@@ -40,3 +40,12 @@ pub view_further : (old now new : Specifications) (a : AttributeSpecification) �
 view_further old now new a was e =
     ap (map attribute_view) (added_further old now (a ∷ []) new was e)
     ∙ map-append attribute_view (added old now) (a ∷ [])
+
+pub view_none : (old : Specifications) → added_view old old ≡ []
+view_none old = ap (map attribute_view) (added_none old)
+
+pub view_more : (old now new : Specifications) → Extends old now → Extends now new
+    → added_view old new ≡ added_view old now ++ added_view now new
+view_more old now new was more =
+    ap (map attribute_view) (added_further old now (added now new) new was more)
+    ∙ map-append attribute_view (added old now) (added now new)

@@ -6,8 +6,9 @@ use Rattle.gimli_core_readers.specs.Encoding.{Encoding}
 use Rattle.gimli_core_readers.specs.FormatSizes.{word_size}
 use Rattle.gimli_core_readers.specs.TheConstants.{DW_FORM_addr, DW_FORM_ref_addr}
 use Rattle.gimli_core_abbrev.specs.declared.widths.FixedWidths.{FixedWidths}
+use Rattle.gimli_core_abbrev.specs.declared.widths.PackedWidths.{PackedWidths}
 use Rattle.gimli_core_abbrev.specs.declared.widths.TheConstants.{OF_FORMS}
-use Rattle.gimli_core_abbrev.specs.FormWidths.{is_one_of, forms_of_0, forms_of_1, forms_of_2, forms_of_3, forms_of_4, forms_of_8, forms_of_16, forms_of_offsets, fixed_width_of, ref_addr_width, width_of_one, IsOfAtMostOne}
+use Rattle.gimli_core_abbrev.specs.FormWidths.{is_one_of, forms_of_0, forms_of_1, forms_of_2, forms_of_3, forms_of_4, forms_of_8, forms_of_16, forms_of_offsets, fixed_width_of, ref_addr_width, width_of_one, widths_in, IsOfAtMostOne}
 
 of_counts : ℕ → ℕ → ℕ → ℕ → FixedWidths
 of_counts n addresses offsets attributes =
@@ -92,15 +93,15 @@ same-true v w h =
     ∙ ap (λ (n : ℕ). of_counts w.bytes w.addresses w.offsets n) attributes
 
 -- each row is that of its form, and of at most one attribute
-are_rows : ℕ → List FixedWidths → Bool
+are_rows : ℕ → List PackedWidths → Bool
 are_rows k [] = true
-are_rows k (w ∷ ws) = is_same w (of_form k) && are_rows (suc k) ws
+are_rows k (w ∷ ws) = is_same (widths_in w) (of_form k) && are_rows (suc k) ws
 
-row : (k i : ℕ) (ws : List FixedWidths) (d : FixedWidths) → are_rows k ws ≡ true → i < length ws
-    → slice_index_or ws i d ≡ of_form (k + i)
+row : (k i : ℕ) (ws : List PackedWidths) (d : PackedWidths) → are_rows k ws ≡ true → i < length ws
+    → widths_in (slice_index_or ws i d) ≡ of_form (k + i)
 unfolding are_rows
 row k i [] d h less = absurd (omega (arith, less))
-row k zero (w ∷ ws) d h less = same-true w (of_form k) (and_parts _ _ h).0 ∙ ap of_form (omega arith)
+row k zero (w ∷ ws) d h less = same-true (widths_in w) (of_form k) (and_parts _ _ h).0 ∙ ap of_form (omega arith)
 row k (suc i) (w ∷ ws) d h less =
     row (suc k) i ws d (and_parts _ _ h).1 (omega (arith, less)) ∙ ap of_form (omega arith)
 
@@ -108,11 +109,11 @@ rows_hold : are_rows 0 OF_FORMS ≡ true
 unfolding are_rows is_same of_form of_counts unknown
 rows_hold = refl
 
-of_row : (i : ℕ) (d : FixedWidths) → i < 45 → slice_index_or OF_FORMS i d ≡ of_form i
+of_row : (i : ℕ) (d : PackedWidths) → i < 45 → widths_in (slice_index_or OF_FORMS i d) ≡ of_form i
 of_row i d less = row 0 i OF_FORMS d rows_hold less ∙ ap of_form (omega arith)
 
-pub row-width : (e : Encoding) (i : ℕ) (d : FixedWidths) → i < 45
-    → fixed_width_of e i ≡ width_of_one e (slice_index_or OF_FORMS i d)
+pub row-width : (e : Encoding) (i : ℕ) (d : PackedWidths) → i < 45
+    → fixed_width_of e i ≡ width_of_one e (widths_in (slice_index_or OF_FORMS i d))
 row-width e i d less = of_form-width e i ∙ ap (width_of_one e) (sym (of_row i d less))
 
 of_form-small : (form : ℕ) → IsOfAtMostOne (of_form form)
@@ -145,5 +146,5 @@ of_form-small form =
         (omega arith, omega arith, omega arith, omega arith)
     by_tests false false false false false false false false false false = none
 
-pub row-small : (i : ℕ) (d : FixedWidths) → i < 45 → IsOfAtMostOne (slice_index_or OF_FORMS i d)
+pub row-small : (i : ℕ) (d : PackedWidths) → i < 45 → IsOfAtMostOne (widths_in (slice_index_or OF_FORMS i d))
 row-small i d less = subst IsOfAtMostOne (sym (of_row i d less)) (of_form-small i)

@@ -1,14 +1,16 @@
 -- The declaration of a code, found while its table is checked.
-use Rattle.std.proofs.Common.{◌≡◌, ℕ, suc, ◌+◌, ◌-◌, ◌<◌, ◌≤◌, Bool, true, false, cond, eqb, List, [], ◌∷◌, ◌++◌, length, Option, Some, None, Result, Ok, Err, refl, sym, ap, subst, ◌∙◌, inl, inr, arith, append_assoc, length-append}
+use Rattle.std.proofs.Common.{◌≡◌, ℕ, suc, ◌+◌, ◌-◌, ◌<◌, ◌≤◌, Bool, true, false, cond, eqb, List, [], ◌∷◌, ◌++◌, length, Option, Some, None, Result, Ok, Err, refl, sym, ap, subst, ◌∙◌, inl, inr, arith, append_assoc, append-nil, length-append}
+use Rattle.std.specs.Prelude.{IfSome}
 use Rattle.std.specs.List.{slice_get}
 use Rattle.std.specs.Result.{IsErrAnd}
 use Rattle.std.proofs.lemmas.Bool.{cases_lt, ne_eqb, eq-eqb}
 use Rattle.gimli_core_readers.specs.Error.{Error}
 use Rattle.gimli_core_readers.specs.View.{View, bytes_left}
 use Rattle.gimli_core_readers.specs.Parsers.{value_of, map_value}
-use Rattle.gimli_core_readers.specs.Repetition.{prepend, listing_in}
+use Rattle.gimli_core_readers.specs.Repetition.{Listing, prepend, listing_in, next_item}
+use Rattle.gimli_core_readers.specs.Calls.{ReturnsAsOrNoMemory}
 use Rattle.gimli_core_readers.proofs.StepParts.{value_of-Ok}
-use Rattle.gimli_core_readers.proofs.Listings.{item_smaller}
+use Rattle.gimli_core_readers.proofs.Listings.{item_smaller, listing_next, listing_end}
 use Rattle.gimli_core_readers.specs.Results.{refusal_of}
 use Rattle.gimli_core_abbrev.specs.Declarations.{Declaration, declaration_at}
 use Rattle.gimli_core_abbrev.specs.TableParsing.{declaration, table}
@@ -21,7 +23,7 @@ use Rattle.gimli_core_abbrev.proofs.DeclarationSizes.{declarations-shrink}
 use Rattle.gimli_core_abbrev.proofs.SkippedDeclarations.{code_of, skipped_some}
 use Rattle.gimli_core_abbrev.proofs.TableCollection.{found_by_code}
 use Rattle.gimli_core_abbrev.proofs.RisingCodes.{below_all, table-rises}
-use Rattle.gimli_core_abbrev.proofs.CheckedTables.{FromCode, item-before, item-after, later, once_in_order, run-more, run_ends, run_refused, ends_without_bytes, not_in_order}
+use Rattle.gimli_core_abbrev.proofs.RunsInOrder.{FromCode, item-before, item-after, later, once_in_order, run-more, run_ends, run_refused, ends_without_bytes, not_in_order}
 
 -- ---- lists
 
@@ -54,6 +56,25 @@ in_order-join ds more code h is k place x e = elim (cases_lt place (length ds)) 
       (sym (item-after ds more (place - length ds)) ∙ ap (slice_get (ds ++ more)) (sym p) ∙ e) in
       omega (arith, code_is, is, le)
 ]
+
+-- two runs, one after the other
+abbrev run_join : (count : ℕ) (v b u : View) (run : IsRun 0 v b) → length run.declarations ≡ count → IsRun count b u
+    → IsRun 0 v u
+run_join count v b u run is next = record {
+  declarations = run.declarations ++ next.declarations;
+  listing =
+      ap (λ (ds : List Declaration). record {
+        items = ds;
+        ending = (listing_in bytes_left declaration u).ending;
+      }) (append_assoc run.declarations next.declarations (listing_in bytes_left declaration u).items)
+      ∙ ap (prepend run.declarations) next.listing ∙ run.listing;
+  in_order = in_order-join run.declarations next.declarations count run.in_order is next.in_order;
+  sizes =
+      let both = length-append run.declarations next.declarations in
+      let first = run.sizes in
+      let second = next.sizes in
+      omega (arith, both, first, second);
+}
 
 -- ---- what is found
 
@@ -129,24 +150,7 @@ up_to-count code v b t at =
 
 -- and those after it
 abbrev through : (code : ℕ) (v b t u : View) → IsAt code v b t → IsRun code t u → IsRun 0 v u
-through code v b t u at next =
-    let run = up_to code v b t at in
-    record {
-      declarations = run.declarations ++ next.declarations;
-      listing =
-          ap (λ (ds : List Declaration). record {
-            items = ds;
-            ending = (listing_in bytes_left declaration u).ending;
-          }) (append_assoc run.declarations next.declarations (listing_in bytes_left declaration u).items)
-          ∙ ap (prepend run.declarations) next.listing ∙ run.listing;
-      in_order = in_order-join run.declarations next.declarations code run.in_order (up_to-count code v b t at)
-          next.in_order;
-      sizes =
-          let both = length-append run.declarations next.declarations in
-          let first = run.sizes in
-          let second = next.sizes in
-          omega (arith, both, first, second);
-    }
+through code v b t u at next = run_join code v t u (up_to code v b t at) (up_to-count code v b t at) next
 
 at_found : (code : ℕ) (v b t u x : View) (at : IsAt code v b t) → IsRun code t u → declaration u ≡ Ok (None, x)
     → find_declaration code (value_of (table v)) ≡ Ok (Some at.here)
@@ -208,3 +212,55 @@ after_unordered code limit v b t x s at is skips ordered =
     let count = up_to-count code v b t at in
     let ne = h.4 in
     not_in_order v h.0 x (through code v b t h.0 at h.1) h.2 h.3 (λ e. ne (omega (arith, e, both, count))) ordered
+
+-- ---- a declaration that is read after its table was skipped
+
+-- the declarations of a run up to the end
+run_items : (first : ℕ) (v u w : View) (run : IsRun first v u) → declaration u ≡ Ok (None, w)
+    → listing_in bytes_left declaration v ≡ record { items = run.declarations; ending = Ok w }
+run_items first v u w run end =
+    sym run.listing
+    ∙ ap (λ (l : Listing View Declaration). prepend run.declarations l) (listing_end declarations-shrink u w end)
+    ∙ ap (λ (ds : List Declaration). record { items = ds; ending = Ok w }) (append-nil run.declarations)
+
+-- what is read where a run begins is its first declaration
+run_begins : (first : ℕ) (v u w t : View) (run : IsRun first v u) (d : Declaration) → declaration u ≡ Ok (None, w)
+    → declaration v ≡ Ok (Some d, t) → d ∷ (listing_in bytes_left declaration t).items ≡ run.declarations
+run_begins first v u w t run d end item =
+    let all = listing_in bytes_left declaration in
+    ap (λ (l : Listing View Declaration). l.items)
+    (ap (λ (r : Result (Option Declaration × View) Error). next_item r all) (sym item)
+    ∙ sym (listing_next declarations-shrink v) ∙ run_items first v u w run end)
+
+-- the declaration of a code, and that it is found
+abbrev pub IsFound : ℕ → View → Declaration → Type 0
+IsFound code v d = (d.code ≡ code) × (find_declaration code (value_of (table v)) ≡ Ok (Some d))
+
+found_between : (code : ℕ) (v b u w t : View) (run : IsRun 0 v b) (next : IsRun (code - 1) b u) (d : Declaration)
+    → 0 < code → length run.declarations ≡ code - 1 → declaration u ≡ Ok (None, w) → declaration b ≡ Ok (Some d, t)
+    → IsFound code v d
+found_between code v b u w t run next d above count end item =
+    let more = (listing_in bytes_left declaration t).items in
+    let items : d ∷ more ≡ next.declarations = run_begins (code - 1) b u w t next d end item in
+    let first = next.in_order 0 d (ap (λ (ds : List Declaration). slice_get ds 0) (sym items)) in
+    let is : d.code ≡ code = omega (arith, first, above) in
+    let whole = run_join (code - 1) v b u run count next in (
+      is,
+      ap (find code) (run_ends v u w whole end)
+          ∙ ap found (found_by_code code whole.declarations (once_in_order 0 whole.declarations whole.in_order)
+          ∙ ap (λ (ds : List Declaration). declaration_at code (run.declarations ++ ds)) (sym items)
+          ∙ ap (declaration_at code) (sym (append_assoc run.declarations (d ∷ []) more))
+          ∙ found_after run.declarations more d code
+          (absent_above 0 run.declarations code run.in_order (omega (arith, count, above))) is),
+    )
+
+pub found_alone : (code limit : ℕ) (v w b x t : View) (s r : Skipped) (read : Result (Option Declaration) Error)
+    (o : Option Declaration) → 0 < code → s ≡ Counted → SkipsInOrder 0 (code - 1) (Ok s) v w → b ≡ w → r ≡ Ended
+    → SkipsInOrder (code - 1) limit (Ok r) b x → read ≡ Ok o
+    → ReturnsAsOrNoMemory (λ a. (a, t)) read (declaration w) → IfSome o (IsFound code v)
+found_alone code limit v w b x t s r read None above counted skips same ended goes was is = tt
+found_alone code limit v w b x t s r read (Some d) above counted skips same ended goes was is =
+    let h = subst (λ (y : Skipped). SkipsInOrder 0 (code - 1) (Ok y) v w) counted skips in
+    let k = subst (λ (y : Skipped). SkipsInOrder (code - 1) limit (Ok y) b x) ended goes in
+    found_between code v w k.0 x t h.0 (subst (λ (y : View). IsRun (code - 1) y k.0) same k.1) d above
+    (omega (arith, h.1)) k.3 (subst (λ z. ReturnsAsOrNoMemory (λ a. (a, t)) z (declaration w)) was is)

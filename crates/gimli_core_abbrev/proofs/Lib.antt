@@ -22,12 +22,15 @@ mod DeclarationMoves
 mod TableTails
 mod SectionEnds
 mod TableEndExamples
-mod CheckedTables
+mod RunsInOrder
 mod FoundDeclarations
+mod KeptDeclarations
 mod CacheMaps
+mod OtherTables
 mod CachedTables
 pub mod WidthSums
 mod CountedPrefixes
 mod ReadFacts
 mod AddedAttributes
 mod FormRows
+mod PackedSums

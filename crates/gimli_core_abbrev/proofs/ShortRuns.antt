@@ -1,6 +1,5 @@
 -- Attributes that a loop reads, some of them in runs of two bytes each.
-use Rattle.std.proofs.Common.{◌≡◌, ℕ, suc, ◌+◌, ◌*◌, ◌<◌, List, [], ◌∷◌, ◌++◌, length, map, drop, get_or, Option, Some, Result, Ok, sym, ap, subst, ◌∙◌, arith, append_assoc, add-one}
-use Rattle.std.proofs.lemmas.List.{map-append}
+use Rattle.std.proofs.Common.{◌≡◌, ℕ, suc, ◌+◌, ◌*◌, ◌<◌, List, [], ◌∷◌, ◌++◌, length, drop, get_or, Option, Some, Result, Ok, sym, ap, subst, ◌∙◌, arith, append_assoc, add-one}
 use Rattle.std.proofs.Math.Seq.{drop-cons}
 use Rattle.gimli_core_readers.specs.Error.{Error}
 use Rattle.gimli_core_readers.specs.View.{View, bytes_left, after}
@@ -12,7 +11,7 @@ use Rattle.gimli_core_abbrev.specs.Declarations.{Attribute}
 use Rattle.gimli_core_abbrev.specs.AbbreviationViews.{attribute_view, added, added_view, Extends}
 use Rattle.gimli_core_abbrev.specs.TableParsing.{attribute, IsShortAttribute}
 use Rattle.gimli_core_abbrev.proofs.DeclarationSizes.{attributes-shrink}
-use Rattle.gimli_core_abbrev.proofs.AddedAttributes.{added_none, added_further, extends_none, extends_further, view_further}
+use Rattle.gimli_core_abbrev.proofs.AddedAttributes.{extends_none, extends_further, view_none, view_further, view_more}
 
 abbrev Specifications : Type 0
 Specifications = List AttributeSpecification
@@ -29,7 +28,7 @@ pub record ReadSoFar (old now : Specifications) (v s : View) : Type 0 where
 -- nothing yet
 pub read_none : (old : Specifications) (v : View) → ReadSoFar old old v v
 read_none old v =
-    let none : added_view old old ≡ [] = ap (map attribute_view) (added_none old) in
+    let none = view_none old in
     record {
       extends = extends_none old;
       listing = ap (λ (xs : List Attribute). prepend xs (listing_of v)) none;
@@ -89,9 +88,7 @@ pub read_run : (old now new : Specifications) (n : ℕ) (bytes : List ℕ) (v s 
     → ReadSoFar old new v t
 read_run old now new n bytes v s t was more run same place =
     let rest = listing_of (after (2 * n) s) in
-    let items : added_view old new ≡ added_view old now ++ added_view now new =
-    ap (map attribute_view) (added_further old now (added now new) new was.extends more)
-    ∙ map-append attribute_view (added old now) (added now new) in
+    let items = view_more old now new was.extends more in
     record {
       extends = extends_further old now (added now new) new was.extends more;
       listing =

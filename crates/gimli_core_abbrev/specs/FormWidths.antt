@@ -1,11 +1,12 @@
 -- How many bytes a form's value has, where that depends on the form alone (DWARF 5, 7.5.6).
-use Rattle.std.specs.Prelude.{◌≡◌, ◌≤◌, ℕ, zero, suc, min, ◌+◌, ◌*◌, ◌==◌, Bool, Option, Some, None, is_some, option_map, option_and_then, List, [], ◌∷◌, if◌then◌else◌}
+use Rattle.std.specs.Prelude.{◌≡◌, ◌≤◌, ◌<◌, ℕ, zero, suc, min, ◌+◌, ◌*◌, ◌/◌, ◌%◌, ◌==◌, Bool, Option, Some, None, is_some, option_map, option_and_then, List, [], ◌∷◌, if◌then◌else◌}
 use Rattle.std.specs.List.{list_any, prefix_len}
 use Rattle.gimli_core_readers.specs.TheConstants.{DW_FORM_flag_present, DW_FORM_implicit_const, DW_FORM_data1, DW_FORM_flag, DW_FORM_ref1, DW_FORM_strx1, DW_FORM_addrx1, DW_FORM_data2, DW_FORM_ref2, DW_FORM_strx2, DW_FORM_addrx2, DW_FORM_strx3, DW_FORM_addrx3, DW_FORM_data4, DW_FORM_ref4, DW_FORM_ref_sup4, DW_FORM_strx4, DW_FORM_addrx4, DW_FORM_data8, DW_FORM_ref8, DW_FORM_ref_sig8, DW_FORM_ref_sup8, DW_FORM_data16, DW_FORM_strp, DW_FORM_sec_offset, DW_FORM_strp_sup, DW_FORM_line_strp, DW_FORM_GNU_ref_alt, DW_FORM_GNU_strp_alt, DW_FORM_addr, DW_FORM_ref_addr}
 use Rattle.gimli_core_readers.specs.Encoding.{Encoding}
 use Rattle.gimli_core_readers.specs.FormatSizes.{word_size}
 use Rattle.gimli_core_abbrev.specs.Declarations.{Attribute}
 use Rattle.gimli_core_abbrev.specs.declared.widths.FixedWidths.{FixedWidths}
+use Rattle.gimli_core_abbrev.specs.declared.widths.PackedWidths.{PackedWidths}
 
 abbrev pub is_one_of : List ℕ → ℕ → Bool
 is_one_of forms form = list_any (λ f. f == form) forms
@@ -82,6 +83,34 @@ sum_of_first width (suc n) (x ∷ xs) =
 abbrev pub total_width : Encoding → FixedWidths → ℕ
 total_width encoding w =
     w.bytes + w.addresses * encoding.address_size + w.offsets * word_size encoding.format
+
+-- of no attribute
+abbrev pub no_widths : FixedWidths
+no_widths = record { bytes = 0; addresses = 0; offsets = 0; attributes = 0 }
+
+-- in one number: a byte each, from the low one on
+abbrev pub widths_in : PackedWidths → FixedWidths
+widths_in p =
+    record {
+      bytes = p.0 % 256;
+      addresses = p.0 / 256 % 256;
+      offsets = p.0 / 256 / 256 % 256;
+      attributes = p.0 / 256 / 256 / 256 % 256;
+    }
+
+-- the first ones, and the second ones count times
+abbrev pub sum_of_widths : FixedWidths → ℕ → FixedWidths → FixedWidths
+sum_of_widths v count w =
+    record {
+      bytes = v.bytes + count * w.bytes;
+      addresses = v.addresses + count * w.addresses;
+      offsets = v.offsets + count * w.offsets;
+      attributes = v.attributes + count * w.attributes;
+    }
+
+-- each fits in a byte
+abbrev pub AreBytes : FixedWidths → Type 0
+AreBytes w = (w.bytes < 256) × (w.addresses < 256) × (w.offsets < 256) × (w.attributes < 256)
 
 -- those of one attribute, or of none
 abbrev pub IsOfAtMostOne : FixedWidths → Type 0

@@ -34,3 +34,4 @@ pub mod FormWidths
 pub mod TableCache
 pub mod TableLaws
 pub mod TableChecks
+pub mod CheckedTables

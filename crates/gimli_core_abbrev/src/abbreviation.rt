@@ -10,7 +10,7 @@ ghost use Rattle.gimli_core_readers.specs.View.{View, bytes_left, after};
 ghost use Rattle.gimli_core_abbrev.specs.TableParsing.{implicit_const_form, implicit_const, attribute, IsShortAttribute, attributes, children, declaration_of, declaration};
 ghost use Rattle.gimli_core_readers.specs.Error.TheVariants.{Memory};
 ghost use Rattle.gimli_core_abbrev.specs.AbbreviationViews.{attribute_view, added_view, Extends, with_attributes, nothing};
-ghost use Rattle.gimli_core_abbrev.specs.DeclarationFacts.{KnowsAttributes};
+ghost use Rattle.gimli_core_abbrev.specs.DeclarationFacts.{FitsInBytes, KnowsAttributes, KnowsMore};
 ghost use Rattle.gimli_core_abbrev.specs.FormWidths.{width_of};
 
 use crate::declaration::{CodedHead, Head};
@@ -227,19 +227,26 @@ fn push(
     Ok(attribute)
 }
 
-// Appends the attributes of two bytes each that come first, as many as there is room for, and
-// returns how many.
+// Appends the attributes of two bytes each that come first, as many as there is room for, takes
+// them into the facts, and returns how many.
 #[inline(always)]
-fn push_short_run(bytes: &[u8], found: &mut Vec<AttributeSpecification>) -> usize
+fn push_short_run(
+    bytes: &[u8],
+    found: &mut Vec<AttributeSpecification>,
+    facts: &mut AttributeFacts,
+) -> usize
+    requires { FitsInBytes facts.now }
     ensures extends { Extends found.old.items found.new.items }
     ensures within { 2 * result ≤ length bytes.now }
     ensures run { (v : View) → v.bytes ≡ bytes.now → listing_in bytes_left attribute v
         ≡ prepend (added_view found.old.items found.new.items)
         (listing_in bytes_left attribute (after (2 * result) v)) }
+    ensures knows { KnowsMore facts.old facts.new (added_view found.old.items found.new.items) }
 {
     let alloc = *found.allocator();
-    // in a variable, so that its length stays in a register
+    // in variables, so that the list's length and the facts stay in registers
     let mut list = mem::replace(found, Vec::new(alloc));
+    let mut known = *facts;
     let most = (list.capacity() - list.len()).min(bytes.len() / 2);
     let mut count = 0;
     'pushing: while count < most {
@@ -247,8 +254,10 @@ fn push_short_run(bytes: &[u8], found: &mut Vec<AttributeSpecification>) -> usiz
             break;
         };
         list.push_reserved(attribute);
+        known = known.with(attribute);
         count += 1;
     }
+    *facts = known;
     *found = list;
     count
 }
@@ -284,28 +293,56 @@ fn push_next<E: Endianity>(
         place.advance(2);
         return Ok(None);
     }
-    push_long(place, found)
+    // by a copy, so that the place stays in registers
+    let mut rest = place.range_from(0..);
+    let attribute = push_long(&mut rest, found)?;
+    *place = rest;
+    Ok(attribute)
 }
 
-// Reads the attributes of a declaration, and appends them to a list.
+// Reads the attributes of a declaration, appends them to a list, and takes them into the facts.
 #[inline(always)]
 #[tactic(auto, unfolding(crate::specs::TableParsing::attributes))]
 fn parse_attributes<E: Endianity>(
     input: &mut EndianSlice<'_, E>,
     found: &mut Vec<AttributeSpecification>,
+    facts: &mut AttributeFacts,
 ) -> Result<(), Error>
+    requires { FitsInBytes facts.now }
     ensures value { ReturnsAsOrNoMemory
         (λ _. (added_view found.old.items found.new.items, input.new)) result
         (attributes input.old) }
     ensures extends { OnOk result (Extends found.old.items found.new.items) }
+    ensures knows { OnOk result
+        (KnowsMore facts.old facts.new (added_view found.old.items found.new.items)) }
 {
     'pushing: loop {
-        let count = push_short_run(input.slice(), found);
+        let count = push_short_run(input.slice(), found, facts);
         input.advance(2 * count);
-        if push_next(input, found)?.is_none() {
-            return Ok(());
+        match push_next(input, found)? {
+            Some(attribute) => *facts = facts.with(attribute),
+            None => return Ok(()),
         }
     }
+}
+
+// How many attributes of two bytes each come first.
+#[inline(always)]
+fn short_run(bytes: &[u8]) -> usize
+    ensures within { 2 * result ≤ length bytes.now }
+    ensures run { (v : View) → v.bytes ≡ bytes.now
+        → (listing_in bytes_left attribute (after (2 * result) v)).ending
+        ≡ (listing_in bytes_left attribute v).ending }
+{
+    let pairs = bytes.len() / 2;
+    let mut run = 0;
+    'counting: while run < pairs {
+        let Some(_attribute) = attribute_of_bytes(bytes[2 * run], bytes[2 * run + 1]) else {
+            break;
+        };
+        run += 1;
+    }
+    run
 }
 
 // Skips the attributes of a declaration.
@@ -314,8 +351,13 @@ fn skip_attributes<R: Reader>(input: &mut R) -> Result<(), Error>
     ensures { ReturnsAs (λ x. (x, R.view input.new)) result
         (map_value nothing attributes (R.view input.old)) }
 {
-    while parse_attribute(input)?.is_some() {}
-    Ok(())
+    'skipping: loop {
+        let run = short_run(input.as_bytes());
+        input.advance(2 * run);
+        if parse_attribute(input)?.is_none() {
+            return Ok(());
+        }
+    }
 }
 
 // Reads whether children follow.
@@ -365,9 +407,8 @@ fn parse_after_code<E: Endianity>(
         return Err(Error::AbbreviationTagZero);
     }
     let has_children = parse_children(input)?;
-    let begin = attributes.len();
-    parse_attributes(input, attributes)?;
-    let facts = AttributeFacts::of(&attributes[begin..]);
+    let mut facts = AttributeFacts::none();
+    parse_attributes(input, attributes, &mut facts)?;
     let head = Head::new(tag, has_children, facts);
     Ok(CodedHead { code, head })
 }
@@ -425,7 +466,7 @@ pub(crate) fn skip<R: Reader>(input: &mut R) -> Result<Option<u64>, Error>
     if input.is_empty() {
         return Ok(None);
     }
-    let code = input.read_uleb128()?;
+    let code = parse_code(input)?;
     if code == 0 {
         return Ok(None);
     }

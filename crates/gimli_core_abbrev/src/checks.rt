@@ -1,7 +1,8 @@
 //! Checks of tables that aren't kept, except for one declaration.
 
-ghost use Rattle.std.specs.Prelude.{◌≤◌, ◌<◌};
+ghost use Rattle.std.specs.Prelude.{◌≡◌, ◌≤◌, ◌<◌, Some, Ok, IfOk, IfErr, IfSome};
 ghost use Rattle.gimli_core_readers.specs.Calls.{Returns, ReturnsOrNoMemory};
+ghost use Rattle.gimli_core_readers.specs.Error.TheVariants.{Memory};
 ghost use Rattle.gimli_core_readers.specs.Parsers.{value_of};
 ghost use Rattle.gimli_core_readers.specs.Repetition.{listing_in};
 ghost use Rattle.gimli_core_readers.specs.View.{bytes_left};
@@ -50,6 +51,47 @@ fn skip_in_order<R: Reader>(input: &mut R, first: u64, limit: u64) -> Result<Ski
         passed += 1;
     }
     Ok(Skipped::Counted)
+}
+
+// The declaration of a code in a table that can be read and whose codes are 1, 2, .., if it has one
+// and ends where at least so many bytes are left. Only the declaration's attributes take memory.
+pub(crate) fn find_alone<R: Reader>(
+    alloc: Global,
+    reader: &R,
+    code: u64,
+    left: u64,
+) -> Result<Option<OwnedAbbreviation>, Error>
+    ensures ok { IfOk result (λ found. IfSome found (λ d. (d.code ≡ code)
+        × (find_declaration code (value_of (table (R.view reader.now))) ≡ Ok (Some d)))) }
+    ensures err { IfErr result (λ e. e ≡ Memory) }
+{
+    let mut place = borrowed(reader);
+    let limit = place.slice().len() as u64;
+    if code == 0 || limit < code {
+        return Ok(None); // each declaration takes a byte at least
+    }
+    let Ok(before) = skip_in_order(&mut place, 0, code - 1) else {
+        return Ok(None);
+    };
+    match before {
+        Skipped::Counted => {}
+        Skipped::Ended | Skipped::Unordered => return Ok(None),
+    }
+    let mut rest = borrowed(&place);
+    let Ok(after) = skip_in_order(&mut rest, code - 1, limit) else {
+        return Ok(None);
+    };
+    match after {
+        Skipped::Ended => {}
+        Skipped::Counted | Skipped::Unordered => return Ok(None),
+    }
+    if (rest.slice().len() as u64) < left {
+        return Ok(None);
+    }
+    match OwnedAbbreviation::parse(alloc, &mut place) {
+        Ok(found) => Ok(found),
+        Err(_) => Err(Error::Memory), // it was read just now
+    }
 }
 
 // Checks that a table can be read. Takes no memory where the codes are 1, 2, ..

@@ -3,13 +3,13 @@
 ghost use Rattle.std.specs.Prelude.{◌≡◌, ◌<◌, List, map};
 ghost use Rattle.gimli_core_abbrev.specs.AttributeViews.{attribute_view};
 ghost use Rattle.gimli_core_abbrev.specs.AbbreviationViews.{declaration_of_parts, with_attributes};
-ghost use Rattle.gimli_core_abbrev.specs.DeclarationFacts.{names_ranges, FitsInBytes, KnowsRead, KnowsAttributes};
+ghost use Rattle.gimli_core_abbrev.specs.DeclarationFacts.{names_ranges, KnowsRead, KnowsAttributes};
 ghost use Rattle.gimli_core_abbrev.specs.Declarations.{Attribute};
 ghost use Rattle.gimli_core_abbrev.specs.FormWidths.{AreWidthsOf};
 
 use crate::abbreviation::AttributeSpecification;
 use crate::facts::AttributeFacts;
-use crate::widths::FixedWidths;
+use crate::widths::{FixedWidths, PackedWidths};
 use gimli_core_readers::DwTag;
 use std::marker::Model;
 
@@ -19,14 +19,13 @@ pub(crate) struct Head {
     tag: DwTag,
     has_children: bool,
     has_ranges: bool,
-    widths: FixedWidths,
+    widths: PackedWidths,
 }
 
 impl Head {
     // The head of a declaration, with the facts about its attributes.
     #[inline(always)]
     pub(crate) fn new(tag: DwTag, has_children: bool, facts: AttributeFacts) -> Self
-        requires { FitsInBytes facts }
         ensures parts { (result.tag ≡ tag) × (result.has_children ≡ has_children) }
         ensures knows { (attributes : List Attribute) → KnowsRead facts attributes
             → KnowsAttributes result attributes }
@@ -162,7 +161,7 @@ impl<'table> Abbreviation<'table> {
     pub fn fixed_widths(&self) -> FixedWidths
         ensures { AreWidthsOf self.now.attributes result }
     {
-        self.head.widths
+        self.head.widths.unpacked()
     }
 
     // What the declaration says before its attributes, and what is known of these.

@@ -4,6 +4,7 @@
 pub mod abbreviation;
 pub mod abbreviation_laws;
 pub mod cache;
+pub mod checked;
 mod checks;
 pub mod declaration;
 mod facts;
@@ -15,6 +16,7 @@ pub mod widths;
 
 pub use abbreviation::AttributeSpecification;
 pub use cache::{AbbreviationsCache, AbbreviationsCacheStrategy};
+pub use checked::CheckedTables;
 pub use declaration::Abbreviation;
 pub use gimli_core_readers::{
     DW_AT_GNU_addr_base, DW_AT_GNU_dwo_id, DW_AT_GNU_ranges_base, DW_AT_addr_base,

@@ -1,11 +1,13 @@
 //! The section that holds abbreviation tables.
 
-ghost use Rattle.std.specs.Prelude.{◌≡◌};
+ghost use Rattle.std.specs.Prelude.{◌≡◌, IfOk, IfErr, IfSome};
 ghost use Rattle.std.specs.Fn.{FnOnceReturnsAt};
 ghost use Rattle.gimli_core_readers.specs.Calls.{Returns, ReturnsAs, ReturnsOrNoMemory, ReturnsAsOrNoMemory};
+ghost use Rattle.gimli_core_readers.specs.Error.TheVariants.{Memory};
 ghost use Rattle.gimli_core_readers.specs.Parsers.{skip};
 ghost use Rattle.gimli_core_readers.specs.Results.{refusal_of};
 ghost use Rattle.gimli_core_abbrev.specs.TableParsing.{table_at};
+ghost use Rattle.gimli_core_abbrev.specs.CheckedTables.{IsDeclarationAt};
 ghost use Rattle.gimli_core_abbrev.specs.TableLaws.{declarations_at};
 ghost use Rattle.gimli_core_abbrev.specs.TableChecks.{find_declaration, FindsNone, IsInOrder};
 
@@ -133,6 +135,25 @@ impl<R: Reader> DebugAbbrev<R> {
     {
         let place = self.place_at(offset)?;
         checks::find(alloc, &place, code)
+    }
+
+    // The declaration of a code in the table at an offset, where that can be read, its codes are
+    // 1, 2, .., and it ends where at least so many bytes of the section are left.
+    pub(crate) fn find_alone(
+        &self,
+        alloc: Global,
+        offset: DebugAbbrevOffset<R::Offset>,
+        code: u64,
+        left: u64,
+    ) -> Result<Option<OwnedAbbreviation>, Error>
+        ensures ok { IfOk result (λ found. IfSome found
+            (IsDeclarationAt self.now (R.Offset.count offset.0))) }
+        ensures err { IfErr result (λ e. e ≡ Memory) }
+    {
+        match self.place_at(offset) {
+            Ok(place) => checks::find_alone(alloc, &place, code, left),
+            Err(_) => Ok(None),
+        }
     }
 
     // The bytes from an offset on, borrowed.

@@ -332,11 +332,11 @@ impl Abbreviations {
     }
 }
 
-// Room for as many declarations and attributes is taken before the first, so that few tables have
-// to be moved while they grow.
-const FIRST_DECLARATIONS: usize = 64;
+// Room for as many declarations and attributes is taken before the first, so that the tables of
+// most programs are never moved while they grow.
+const FIRST_DECLARATIONS: usize = 256;
 
-const FIRST_ATTRIBUTES: usize = 256;
+const FIRST_ATTRIBUTES: usize = 1024;
 
 // Reads declarations up to the code 0 or the end of the bytes.
 #[tactic(auto, unfolding(crate::specs::TableLayout::declaration_list))]
@@ -351,7 +351,9 @@ pub(crate) fn parse_list<E: Endianity>(
     let mut in_order: usize = 0;
     let mut others = Vec::new(alloc);
     let mut places = BTreeMap::new(alloc);
-    'reading: while let Some(parsed) = abbreviation::parse(input, &mut attributes)? {
+    // in a variable, so that it stays in registers
+    let mut rest = input.range_from(0..);
+    'reading: while let Some(parsed) = abbreviation::parse(&mut rest, &mut attributes)? {
         let CodedHead { code, head } = parsed;
         if has_place(in_order, &places, code) {
             return Err(Error::DuplicateAbbreviationCode(code));
@@ -366,6 +368,7 @@ pub(crate) fn parse_list<E: Endianity>(
             put_place(&mut places, code, place)?;
         }
     }
+    *input = rest;
     let list = DeclarationList {
         declarations,
         attributes,

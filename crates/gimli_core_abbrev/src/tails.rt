@@ -3,11 +3,13 @@
 ghost use Rattle.std.specs.Prelude.{◌≡◌, ◌≢◌, true, MatchResult, Err, Some, Ok, IfOk, IfErr, IfSome};
 ghost use Rattle.gimli_core_readers.specs.Error.TheVariants.{Memory};
 ghost use Rattle.gimli_core_abbrev.specs.Declarations.{Declaration};
+ghost use Rattle.gimli_core_abbrev.specs.CheckedTables.{IsDeclarationAt};
 ghost use Rattle.gimli_core_abbrev.specs.TableLayout.{IsListOf, IsListAt};
 ghost use Rattle.gimli_core_abbrev.specs.TableCache.{table_view};
 ghost use Rattle.gimli_core_abbrev.specs.TableParsing.{declaration, table_at};
 
 use crate::abbreviation;
+use crate::owned::OwnedAbbreviation;
 use crate::section::DebugAbbrev;
 use crate::table::{self, Abbreviations, DeclarationList};
 use gimli_core_readers::{DebugAbbrevOffset, Error, Reader, ReaderOffset, Section, borrowed};
@@ -50,6 +52,34 @@ pub(crate) fn next_table<R: Reader>(
         }
         Err(error) => Ok(Err(error)),
     }
+}
+
+// The declaration of a code in the table at an offset, where this is not that of a declaration of the
+// list that was read last, and the table can be read, has the codes 1, 2, .. and ends where at least
+// so many bytes of the section are left. Else nothing, and the list goes on to the offset, if it can.
+pub(crate) fn find_apart<R: Reader>(
+    alloc: Global,
+    section: &DebugAbbrev<R>,
+    offset: DebugAbbrevOffset<R::Offset>,
+    code: u64,
+    left: u64,
+    last: &mut Option<ListTail<R>>,
+) -> Result<Option<OwnedAbbreviation>, Error>
+    requires { IfSome last.old (λ l. IsListOf section.now l.list.value l.before
+        (R.view l.input)) }
+    ensures ok { IfOk result (λ found. IfSome found
+        (IsDeclarationAt section.now (R.Offset.count offset.0))) }
+    ensures err { IfErr result (λ e. e ≡ Memory) }
+    ensures last { IfSome last.new (λ l. IsListOf section.now l.list.value l.before
+        (R.view l.input)) }
+{
+    if let Some(list) = last.take() {
+        if let Some(list) = skip_to(section, offset, list) {
+            *last = Some(list);
+            return Ok(None);
+        }
+    }
+    section.find_alone(alloc, offset, code, left)
 }
 
 // The list at an offset, or why it can't be read: the one that was read last, if it goes that far,

@@ -2,7 +2,7 @@
 
 ghost use Rattle.std.specs.Prelude.{◌≡◌, ◌≤◌};
 ghost use Rattle.gimli_core_readers.specs.Encoding.{Encoding};
-ghost use Rattle.gimli_core_abbrev.specs.FormWidths.{IsOfAtMostOne, count_of_widths, fixed_width_of, total_width, width_of_one};
+ghost use Rattle.gimli_core_abbrev.specs.FormWidths.{AreBytes, IsOfAtMostOne, count_of_widths, fixed_width_of, no_widths, sum_of_widths, total_width, width_of_one, widths_in};
 
 use gimli_core_readers::{DW_FORM_GNU_ref_alt, DW_FORM_GNU_strp_alt, DwForm, Encoding};
 
@@ -17,67 +17,40 @@ pub struct FixedWidths {
     pub(crate) attributes: u8,
 }
 
+// The same in one number, which is added to in one step: a byte each, from the low one on, for the
+// bytes, the addresses, the offsets and how many attributes have them.
+#[derive(Clone, Copy, Debug, PartialEq, Eq)]
+pub(crate) struct PackedWidths(u32);
+
 // Of no attribute: the width of the form depends on the bytes or on the version of the standard.
-const UNKNOWN: FixedWidths = FixedWidths {
-    bytes: 0,
-    addresses: 0,
-    offsets: 0,
-    attributes: 0,
-};
+const UNKNOWN: PackedWidths = PackedWidths(0);
 
 // Of one attribute of n bytes.
-const BYTES_0: FixedWidths = FixedWidths {
-    attributes: 1,
-    ..UNKNOWN
-};
+const BYTES_0: PackedWidths = PackedWidths(0x0100_0000);
 
-const BYTES_1: FixedWidths = FixedWidths {
-    bytes: 1,
-    ..BYTES_0
-};
+const BYTES_1: PackedWidths = PackedWidths(0x0100_0001);
 
-const BYTES_2: FixedWidths = FixedWidths {
-    bytes: 2,
-    ..BYTES_0
-};
+const BYTES_2: PackedWidths = PackedWidths(0x0100_0002);
 
-const BYTES_3: FixedWidths = FixedWidths {
-    bytes: 3,
-    ..BYTES_0
-};
+const BYTES_3: PackedWidths = PackedWidths(0x0100_0003);
 
-const BYTES_4: FixedWidths = FixedWidths {
-    bytes: 4,
-    ..BYTES_0
-};
+const BYTES_4: PackedWidths = PackedWidths(0x0100_0004);
 
-const BYTES_8: FixedWidths = FixedWidths {
-    bytes: 8,
-    ..BYTES_0
-};
+const BYTES_8: PackedWidths = PackedWidths(0x0100_0008);
 
-const BYTES_16: FixedWidths = FixedWidths {
-    bytes: 16,
-    ..BYTES_0
-};
+const BYTES_16: PackedWidths = PackedWidths(0x0100_0010);
 
 // Of one attribute that is an address.
-const ADDRESS: FixedWidths = FixedWidths {
-    addresses: 1,
-    ..BYTES_0
-};
+const ADDRESS: PackedWidths = PackedWidths(0x0100_0100);
 
 // Of one attribute that is an offset.
-const OFFSET: FixedWidths = FixedWidths {
-    offsets: 1,
-    ..BYTES_0
-};
+const OFFSET: PackedWidths = PackedWidths(0x0101_0000);
 
 // How many forms there are in the standard, from 0 on.
 const FORMS: usize = 45;
 
 // Of one attribute of each form of the standard (DWARF 5, 7.5.6).
-static OF_FORMS: [FixedWidths; FORMS] = [
+static OF_FORMS: [PackedWidths; FORMS] = [
     UNKNOWN, // 0x00 is no form
     ADDRESS, // DW_FORM_addr
     UNKNOWN, // 0x02 is no form
@@ -143,20 +116,30 @@ impl FixedWidths {
             + self.addresses as usize * encoding.address_size as usize
             + self.offsets as usize * encoding.format.word_size() as usize
     }
+}
+
+impl PackedWidths {
+    // Of no attribute.
+    #[inline(always)]
+    pub(crate) fn none() -> Self
+        ensures { widths_in result ≡ no_widths }
+    {
+        UNKNOWN
+    }
 
     // Of one attribute of a form, if its width is the same in each version of the standard; else of
     // none.
     #[inline(always)]
     pub(crate) fn of_form(form: DwForm) -> Self
-        ensures small { IsOfAtMostOne result }
+        ensures small { IsOfAtMostOne (widths_in result) }
         ensures width { (encoding : Encoding)
-            → fixed_width_of encoding form.0 ≡ width_of_one encoding result }
+            → fixed_width_of encoding form.0 ≡ width_of_one encoding (widths_in result) }
     {
         let row = form.0 as usize;
         if row < FORMS {
             OF_FORMS[row]
         } else {
-            FixedWidths::of_vendor_form(form)
+            PackedWidths::of_vendor_form(form)
         }
     }
 
@@ -164,13 +147,45 @@ impl FixedWidths {
     #[inline(always)]
     fn of_vendor_form(form: DwForm) -> Self
         requires { FORMS ≤ form.0 }
-        ensures small { IsOfAtMostOne result }
+        ensures small { IsOfAtMostOne (widths_in result) }
         ensures width { (encoding : Encoding)
-            → fixed_width_of encoding form.0 ≡ width_of_one encoding result }
+            → fixed_width_of encoding form.0 ≡ width_of_one encoding (widths_in result) }
     {
         match form {
             DW_FORM_GNU_ref_alt | DW_FORM_GNU_strp_alt => OFFSET,
             _ => UNKNOWN,
+        }
+    }
+
+    // How many attributes have these widths.
+    #[inline(always)]
+    pub(crate) fn attributes(self) -> u32
+        ensures { result ≡ (widths_in self).attributes }
+    {
+        self.0 >> 24
+    }
+
+    // These widths, and others if the count is 1.
+    #[inline(always)]
+    pub(crate) fn plus(self, others: Self, count: u32) -> Self
+        requires count { count ≤ 1 }
+        requires room { AreBytes (sum_of_widths (widths_in self) count (widths_in others)) }
+        ensures { widths_in result ≡ sum_of_widths (widths_in self) count (widths_in others) }
+    {
+        PackedWidths(self.0 + count * others.0)
+    }
+
+    // Each by itself.
+    #[inline(always)]
+    pub(crate) fn unpacked(self) -> FixedWidths
+        ensures { result ≡ widths_in self }
+    {
+        let [bytes, addresses, offsets, attributes] = self.0.to_le_bytes();
+        FixedWidths {
+            bytes,
+            addresses,
+            offsets,
+            attributes,
         }
     }
 }

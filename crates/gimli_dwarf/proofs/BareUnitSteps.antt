@@ -1,26 +1,22 @@
 -- A unit without its declarations and its line header, from what is read and checked one after the other.
-use Rattle.std.proofs.Common.{◌≡◌, ℕ, List, [], Option, None, option_and_then, Result, Ok, Err, OnOk, refl, sym, ap, subst, ◌∙◌}
+use Rattle.std.proofs.Common.{◌≡◌, ℕ, List, [], Option, Some, None, option_and_then, Result, Ok, Err, IfSome, refl, sym, ap, ◌∙◌}
 use Rattle.std.specs.Option.{option_or}
-use Rattle.gimli_dwarf_spec.specs.Calls.{ReturnsOrNoMemory}
 use Rattle.gimli_dwarf_spec.specs.Error.{Error}
 use Rattle.gimli_dwarf_spec.specs.Results.{and_then, refusal_of}
 use Rattle.gimli_dwarf_spec.specs.Declarations.{Declaration}
+use Rattle.gimli_dwarf_spec.specs.TableParsing.{table_at}
 use Rattle.gimli_dwarf_spec.specs.AttributeValues.{RawValue, RawAttribute}
 use Rattle.gimli_dwarf_spec.specs.Attributes.{Bases}
 use Rattle.gimli_dwarf_spec.specs.UnitHeaders.{DebugUnit}
 use Rattle.gimli_dwarf_spec.specs.LineHeaders.{LineHeader}
 use Rattle.gimli_dwarf_spec.specs.EntryRows.{Row}
 use Rattle.gimli_dwarf_spec.specs.DwarfFiles.{DwarfFile}
-use Rattle.gimli_dwarf_spec.specs.UnitFacts.{UnitFacts, root, facts_of, with_low_pc, dwo_id_in, dwo_id_of, line_header_of, address_or_0}
-use Rattle.gimli_dwarf.specs.BareUnits.{bare, root_declarations}
-use Rattle.gimli_dwarf.specs.RootValues.{RootValues, root_values, bases_in}
+use Rattle.gimli_dwarf_spec.specs.UnitFacts.{UnitFacts, unit_facts, root, facts_of, with_low_pc, dwo_id_in, dwo_id_of, line_header_of, address_or_0}
+use Rattle.gimli_dwarf.specs.BareUnits.{bare, bare_unit_facts, root_declarations}
+use Rattle.gimli_dwarf.specs.RootValues.{root_values, bases_in}
 use Rattle.gimli_dwarf.specs.Roots.{facts_without_texts, facts_with_texts, line_unit, with_program_and_begin, facts_with_program}
 use Rattle.gimli_dwarf.proofs.RootDeclarations.{root-of_declarations}
 use Rattle.gimli_dwarf.proofs.UnitSteps.{facts_by_steps, root_of_facts}
-
-pub on_ok : {A E : Type 0} {P : Type 0} (r : Result A E) → P → OnOk r P
-on_ok (Ok x) h = h
-on_ok (Err e) h = tt
 
 -- ---- the line number program, and where the unit begins
 
@@ -113,7 +109,14 @@ module _ (file : DwarfFile) (u : DebugUnit) (attributes : List RawAttribute) whe
       ∙ ap bare (by_steps table)
 
 module _ (file : DwarfFile) (u : DebugUnit) where
-  -- the facts of a unit that has these declarations, or their refusal
+  abbrev unit_table : Result (List Declaration) Error
+  unit_table = table_at u.abbrev_offset file.sections.debug_abbrev
+
+  -- the root of a unit that has these declarations, or its refusal
+  abbrev root_over : Result (List Declaration) Error → Result Row Error
+  root_over table = and_then table (root file.offset_limit u)
+
+  -- and its facts
   abbrev facts_over : Result (List Declaration) Error → Result UnitFacts Error
   facts_over table =
       and_then table (λ t. and_then (root file.offset_limit u t) (λ r. facts_of file u t r.attributes))
@@ -122,43 +125,81 @@ module _ (file : DwarfFile) (u : DebugUnit) where
   abbrev alone : Result (List Declaration) Error → Result (List Declaration) Error
   alone table = and_then table (λ t. Ok (root_declarations u t))
 
-  pub bare-refused_table : (table : Result (List Declaration) Error) (e : Error) → alone table ≡ Err e
-      → bare (facts_over table) ≡ Err e
-  bare-refused_table (Ok t) e h = absurd cc
-  bare-refused_table (Err d) e h = let same : d ≡ e = cc in ap (λ (x : Error). Err x) same
-
-  -- over that declaration alone the root is the same
-  root_over : (t ds : List Declaration) → alone (Ok t) ≡ Ok ds
-      → root file.offset_limit u t ≡ root file.offset_limit u ds
-  root_over t ds h =
+  by_alone : (table : Result (List Declaration) Error) (ds : List Declaration) → alone table ≡ Ok ds
+      → root_over table ≡ root file.offset_limit u ds
+  by_alone (Ok t) ds h =
       let same : root_declarations u t ≡ ds = cc in
       sym (root-of_declarations file.offset_limit u t) ∙ ap (root file.offset_limit u) same
+  by_alone (Err d) ds h = absurd cc
 
-  pub bare-refused_root : (table : Result (List Declaration) Error) (ds : List Declaration) (e : Error)
-      → alone table ≡ Ok ds → root file.offset_limit u ds ≡ Err e → bare (facts_over table) ≡ Err e
-  bare-refused_root (Ok t) ds e h refused =
-      ap (λ (o : Result Row Error). bare (and_then o (λ r. facts_of file u t r.attributes)))
-      (root_over t ds h ∙ refused)
-  bare-refused_root (Err d) ds e h refused = absurd cc
+  -- over the root's declaration alone the root is the same
+  pub root-of_alone : (kept : Option (List Declaration)) (ds : List Declaration) (limit : ℕ)
+      (r : Result Row Error)
+      → kept ≡ Some ds → IfSome kept (λ ds. alone unit_table ≡ Ok ds) → file.offset_limit ≡ limit
+      → root limit u ds ≡ r → root_over unit_table ≡ r
+  root-of_alone None ds limit r is has same found = absurd cc
+  root-of_alone (Some d) ds limit r is has same found =
+      let this : d ≡ ds = cc in
+      by_alone unit_table d has ∙ ap (λ n. root n u d) same ∙ ap (root limit u) this ∙ found
 
-  pub bare-of_root : (table : Result (List Declaration) Error) (ds : List Declaration) (r : Row)
-      (result : Result UnitFacts Error)
-      → alone table ≡ Ok ds → root file.offset_limit u ds ≡ Ok r
-      → ReturnsOrNoMemory result (bare (facts_of file u [] r.attributes))
-      → ReturnsOrNoMemory result (bare (facts_over table))
-  bare-of_root (Ok t) ds r result h found read =
-      subst (ReturnsOrNoMemory result)
-      (bare-any_table file u r.attributes t
-      ∙ ap (λ (o : Result Row Error). bare (and_then o (λ r. facts_of file u t r.attributes)))
-      (sym (root_over t ds h ∙ found))) read
-  bare-of_root (Err d) ds r result h found read = absurd cc
+  -- over the table that is shared, from the offset that was read
+  module _ (offset limit : ℕ) (t lent : List Declaration) (there : offset ≡ u.abbrev_offset)
+      (is : table_at offset file.sections.debug_abbrev ≡ Ok t) (shared : lent ≡ t)
+      (same : file.offset_limit ≡ limit) where
+    by_offset : unit_table ≡ Ok t
+    by_offset = ap (λ n. table_at n file.sections.debug_abbrev) (sym there) ∙ is
+
+    by_limit : (r : Result Row Error) → root limit u lent ≡ r → root file.offset_limit u t ≡ r
+    by_limit r found = ap (λ n. root n u t) same ∙ ap (root limit u) (sym shared) ∙ found
+
+    pub root-of_table : (r : Result Row Error) → root limit u lent ≡ r → root_over unit_table ≡ r
+    root-of_table r found = ap root_over by_offset ∙ by_limit r found
+
+    -- the whole unit, by the attributes of its root
+    pub whole-of_root : (r : Row) (b : Result UnitFacts Error) → root limit u lent ≡ Ok r
+        → facts_of file u t r.attributes ≡ b → unit_facts file u ≡ b
+    whole-of_root r b found read =
+        ap facts_over by_offset
+        ∙ ap (λ (o : Result Row Error). and_then o (λ r. facts_of file u t r.attributes)) (by_limit (Ok r) found)
+        ∙ read
+
+  by_refused : (table : Result (List Declaration) Error) (e : Error) → root_over table ≡ Err e
+      → facts_over table ≡ Err e
+  by_refused (Ok t) e h = ap (λ (o : Result Row Error). and_then o (λ r. facts_of file u t r.attributes)) h
+  by_refused (Err d) e h = let same : d ≡ e = cc in ap (λ (x : Error). Err x) same
+
+  -- a refused root refuses the unit
+  pub refused-of_root : (e : Error) → root_over unit_table ≡ Err e → unit_facts file u ≡ Err e
+  refused-of_root e h = by_refused unit_table e h
+
+  by_found : (table : Result (List Declaration) Error) (r : Row) → root_over table ≡ Ok r
+      → bare (facts_of file u [] r.attributes) ≡ bare (facts_over table)
+  by_found (Ok t) r h =
+      bare-any_table file u r.attributes t
+      ∙ ap (λ (o : Result Row Error). bare (and_then o (λ r. facts_of file u t r.attributes))) (sym h)
+  by_found (Err d) r h = absurd cc
+
+  -- the bare unit, by the attributes of its root
+  pub bare-of_root : (r : Row) (b : Result UnitFacts Error) → root_over unit_table ≡ Ok r
+      → bare (facts_of file u [] r.attributes) ≡ b → bare_unit_facts file u ≡ b
+  bare-of_root r b h is = sym (by_found unit_table r h) ∙ is
+
+  by_unit : (table : Result (List Declaration) Error) (r : Row) → root_over table ≡ Ok r
+      → (f : UnitFacts) → facts_over table ≡ Ok f → root file.offset_limit f.header f.table ≡ Ok r
+  by_unit (Ok t) r h f read =
+      root_of_facts file u t r file.offset_limit (Ok f) refl h
+      (ap (λ (o : Result Row Error). and_then o (λ r. facts_of file u t r.attributes)) (sym h) ∙ read)
+  by_unit (Err d) r h f read = absurd cc
 
   -- the root that was read is that of the unit with its declarations
-  pub root-of_bare : (table : Result (List Declaration) Error) (ds : List Declaration) (r : Row)
-      → alone table ≡ Ok ds → root file.offset_limit u ds ≡ Ok r
-      → (f : UnitFacts) → facts_over table ≡ Ok f → root file.offset_limit f.header f.table ≡ Ok r
-  root-of_bare (Ok t) ds r h found f read =
-      let there : root file.offset_limit u t ≡ Ok r = root_over t ds h ∙ found in
-      root_of_facts file u t r file.offset_limit (Ok f) refl there
-      (ap (λ (o : Result Row Error). and_then o (λ r. facts_of file u t r.attributes)) (sym there) ∙ read)
-  root-of_bare (Err d) ds r h found f read = absurd cc
+  pub root-of_unit : (r : Row) → root_over unit_table ≡ Ok r
+      → (f : UnitFacts) → unit_facts file u ≡ Ok f → root file.offset_limit f.header f.table ≡ Ok r
+  root-of_unit r h f read = by_unit unit_table r h f read
+
+  -- a unit is refused where the bare one is
+  pub refused-of_bare : (e : Error) → bare_unit_facts file u ≡ Err e → unit_facts file u ≡ Err e
+  refused-of_bare e h = by_bare (unit_facts file u) h
+    where
+      by_bare : (facts : Result UnitFacts Error) → bare facts ≡ Err e → facts ≡ Err e
+      by_bare (Ok f) h = absurd cc
+      by_bare (Err d) h = let same : d ≡ e = cc in ap (λ (x : Error). Err x) same

@@ -1,13 +1,16 @@
 -- The offsets of a file's abbreviation tables, from the calls that answer them one after the other.
-use Rattle.std.proofs.Common.{◌≡◌, ℕ, List, [], ◌∷◌, map, Option, Some, None, Result, Ok, Err, OnOk, sym, ap, ◌∙◌}
+use Rattle.std.proofs.Common.{◌≡◌, ℕ, List, [], ◌∷◌, map, Option, Some, None, Result, Ok, Err, OnOk, sym, ap, subst, ◌∙◌}
+use Rattle.std.specs.List.{Contains}
 use Rattle.std.specs.Iterator.{YieldsThen}
 use Rattle.gimli_dwarf_spec.specs.Error.{Error}
 use Rattle.gimli_dwarf_spec.specs.Tiling.{RemainingSection, whole_section}
 use Rattle.gimli_dwarf_spec.specs.TableCache.{TablesByOffset, EndsOffsets}
+use Rattle.gimli_dwarf_spec.specs.CheckedTables.{DeclarationsByOffset, HasRepeated, HasAll}
 use Rattle.gimli_dwarf_spec.specs.UnitHeaders.{units_of}
 use Rattle.gimli_dwarf_spec.specs.DwarfFiles.{DwarfFile}
-use Rattle.gimli_dwarf.specs.CachedFiles.{cached_file, offsets_of_tables, table_offsets}
+use Rattle.gimli_dwarf.specs.CachedFiles.{cached_file, offsets_of_tables, table_offsets, SharesTables}
 use Rattle.gimli_dwarf.specs.OffsetCalls.{offsets_to_come, GivesOffset}
+use Rattle.gimli_dwarf.proofs.CachedTables.{among_offsets, among_all}
 
 module _ {S O : Type 0} (limit : ℕ) (count : O → ℕ) (units : S → Option RemainingSection) where
   abbrev pub Gives : S → Option (Result O Error) → S → Type 0
@@ -28,6 +31,32 @@ module _ {S O : Type 0} (limit : ℕ) (count : O → ℕ) (units : S → Option 
   all_offsets (o ∷ os) s u last h ends =
       h.1.1 ∙ ap (λ (l : List ℕ). count o ∷ l) (all_offsets os h.1.0 u last (h.0, h.1.2, h.2) ends)
 
+  -- the offsets of a file's units, from calls over its headers
+  file_offsets : (file : DwarfFile) (items : List O) (last : Option (Result O Error)) (s u : S)
+      → units s ≡ Some (whole_section file.sections.debug_info) → limit ≡ file.offset_limit
+      → YieldsThen Gives s (map (λ o. Ok o) items) last u → EndsOffsets last
+      → map count items ≡ table_offsets file
+  file_offsets file items last s u from same h ends =
+      sym (all_offsets items s u last h ends)
+      ∙ ap (offsets_to_come limit) from
+      ∙ ap (λ n. offsets_of_tables (units_of n file.sections.debug_info)) same
+
+  -- a cache with the repeated ones of these has those that the file's units share
+  pub shares_repeated : (file : DwarfFile) (cache : TablesByOffset) (kept : DeclarationsByOffset) (items : List O)
+      (last : Option (Result O Error)) (s u : S)
+      → units s ≡ Some (whole_section file.sections.debug_info) → limit ≡ file.offset_limit
+      → YieldsThen Gives s (map (λ o. Ok o) items) last u → EndsOffsets last
+      → HasRepeated (map count items) cache → HasAll (map count items) cache kept
+      → SharesTables (cached_file file cache)
+  shares_repeated file cache kept items last s u from same h ends repeated all =
+      let offsets : map count items ≡ table_offsets file = file_offsets file items last s u from same h ends in
+      record {
+        shared = λ offset twice. among_offsets cache offset (repeated offset (rw offsets twice));
+        of_units = λ offset has.
+            subst (λ (os : List ℕ). Contains os offset) offsets
+            (among_all (map count items) cache kept offset all has);
+      }
+
   -- a cache with the tables that are chosen of these is one with those of a file's units
   pub caches_chosen : {E : Type 0} (r : Result (Unit {0}) E) (choose : List ℕ → TablesByOffset) (file : DwarfFile)
       (cache : TablesByOffset) (s : S)
@@ -36,9 +65,5 @@ module _ {S O : Type 0} (limit : ℕ) (count : O → ℕ) (units : S → Option 
       × YieldsThen Gives s (map (λ o. Ok o) items) last u × EndsOffsets last × (cache ≡ choose (map count items)))
       → OnOk r (cached_file file cache ≡ cached_file file (choose (table_offsets file)))
   caches_chosen (Ok x) choose file cache s from same h =
-      let offsets : map count h.0 ≡ table_offsets file =
-      sym (all_offsets h.0 s h.2 h.1 h.3 h.4)
-      ∙ ap (offsets_to_come limit) from
-      ∙ ap (λ n. offsets_of_tables (units_of n file.sections.debug_info)) same in
-      ap (cached_file file) (h.5 ∙ ap choose offsets)
+      ap (cached_file file) (h.5 ∙ ap choose (file_offsets file h.0 h.1 s h.2 from same h.3 h.4))
   caches_chosen (Err e) choose file cache s from same h = tt

@@ -1,8 +1,11 @@
 -- The root of a unit needs one of the unit's declarations alone.
-use Rattle.std.proofs.Common.{◌≡◌, ℕ, ℤ, pos, Bool, true, false, cond, eqb, List, [], ◌∷◌, Option, Some, None, Result, Ok, Err, refl, ap, ◌∙◌}
+use Rattle.std.proofs.Common.{◌≡◌, ℕ, ℤ, pos, Bool, true, false, cond, eqb, List, [], ◌∷◌, Option, Some, None, Result, Ok, Err, refl, sym, ap, subst, ◌∙◌}
 use Rattle.std.specs.Option.{option_to_list}
+use Rattle.std.specs.Prelude.{IfSome}
+use Rattle.gimli_dwarf_spec.specs.CheckedTables.{HasAt}
 use Rattle.gimli_dwarf_spec.specs.Error.{Error}
 use Rattle.gimli_dwarf_spec.specs.Error.TheVariants.{MissingUnitDie}
+use Rattle.gimli_dwarf_spec.specs.TableParsing.{table_at}
 use Rattle.gimli_dwarf_spec.specs.View.{View, bytes_left}
 use Rattle.gimli_dwarf_spec.specs.Parsers.{Step, ◌>>=◌, give, here, lift, proceed, value_of}
 use Rattle.gimli_dwarf_spec.specs.NumberParsers.{unsigned}
@@ -15,7 +18,7 @@ use Rattle.gimli_dwarf_spec.specs.EntryWalks.{Walk, next_offset, read_in_walk, w
 use Rattle.gimli_dwarf_spec.specs.EntryRows.{Row, row_of, all_contents, row}
 use Rattle.gimli_dwarf_spec.specs.UnitEntries.{walk_before}
 use Rattle.gimli_dwarf_spec.specs.UnitFacts.{root, unless_null}
-use Rattle.gimli_dwarf.specs.BareUnits.{number_or_0, root_declarations}
+use Rattle.gimli_dwarf.specs.BareUnits.{number_or_0, root_code, root_declarations}
 
 -- the declaration that a code finds is found again where it is alone
 found_again : (code : ℕ) (table : List Declaration)
@@ -117,3 +120,26 @@ module _ (limit : ℕ) (u : DebugUnit) where
   root-of_declarations table =
       ap (λ (r : Result Row Error). cond (eqb (bytes_left u.entries) 0) (Err MissingUnitDie) (and_then r unless_null))
       (root_row table)
+
+-- ---- a declaration that is found alone
+
+-- what is read of the root's declarations, where its declaration was found
+root_alone : (u : DebugUnit) (table : Result (List Declaration) Error) (d : Declaration) (code : ℕ)
+    → code ≡ root_code u → and_then table (λ ds. Ok (declaration_at code ds)) ≡ Ok (Some d)
+    → and_then table (λ ds. Ok (root_declarations u ds)) ≡ Ok (d ∷ [])
+root_alone u (Ok ds) d code same found =
+    let has : declaration_at code ds ≡ Some d = cc in
+    ap (λ (o : Option Declaration). Ok (option_to_list o)) (ap (λ (c : ℕ). declaration_at c ds) (sym same) ∙ has)
+root_alone u (Err e) d code same found = absurd cc
+
+-- the table that is made of it
+pub root_kept : (u : DebugUnit) (section : View) (offset code : ℕ) (o : Option Declaration) (d : Declaration)
+    (ds : List Declaration) → offset ≡ u.abbrev_offset → code ≡ root_code u → o ≡ Some d
+    → IfSome o (HasAt section offset code) → ds ≡ d ∷ []
+    → and_then (table_at u.abbrev_offset section) (λ table. Ok (root_declarations u table)) ≡ Ok ds
+root_kept u section offset code o d ds at same is has made =
+    let found : HasAt section u.abbrev_offset code d =
+    subst (λ (n : ℕ). HasAt section n code d) at
+    (subst (λ (p : Option Declaration). IfSome p (HasAt section offset code)) is has) in
+    root_alone u (table_at u.abbrev_offset section) d code same found
+    ∙ ap (λ (xs : List Declaration). Ok xs) (sym made)

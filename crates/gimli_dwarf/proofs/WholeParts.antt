@@ -1,5 +1,5 @@
 -- A bare unit with the parts that it lacks is the whole one.
-use Rattle.std.proofs.Common.{◌≡◌, ℕ, List, Option, Result, Ok, Err, refl, ap, subst, sym, ◌∙◌}
+use Rattle.std.proofs.Common.{◌≡◌, ℕ, List, Option, Result, Ok, Err, refl, ap, subst, ◌∙◌}
 use Rattle.gimli_dwarf_spec.specs.Error.{Error}
 use Rattle.gimli_dwarf_spec.specs.View.{View}
 use Rattle.gimli_dwarf_spec.specs.Results.{and_then}
@@ -10,7 +10,7 @@ use Rattle.gimli_dwarf_spec.specs.AttributeValues.{RawAttribute}
 use Rattle.gimli_dwarf_spec.specs.Attributes.{Bases}
 use Rattle.gimli_dwarf_spec.specs.LineHeaders.{LineHeader}
 use Rattle.gimli_dwarf_spec.specs.DwarfFiles.{DwarfFile}
-use Rattle.gimli_dwarf_spec.specs.UnitFacts.{UnitFacts, root, facts_of, bases_of, with_low_pc, line_header_of, last_value_of_kind, line_reference_of, is_stmt_list, unit_facts}
+use Rattle.gimli_dwarf_spec.specs.UnitFacts.{UnitFacts, root, facts_of, bases_of, with_low_pc, line_header_of, last_value_of_kind, line_reference_of, is_stmt_list}
 use Rattle.gimli_dwarf.specs.Roots.{line_unit}
 use Rattle.gimli_dwarf.specs.BareUnits.{bare_facts}
 use Rattle.gimli_dwarf.specs.WholeUnits.{IsBareIn, facts_or, whole_facts, with_parts}

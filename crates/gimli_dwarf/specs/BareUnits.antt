@@ -1,10 +1,10 @@
 -- Units whose declarations and line number programs are checked and not kept.
-use Rattle.std.specs.Prelude.{ℕ, List, [], None, Result, Ok, Err}
+use Rattle.std.specs.Prelude.{ℕ, Bool, true, false, List, [], None, Result, Ok, Err}
 use Rattle.std.specs.Option.{option_to_list}
 use Rattle.gimli_dwarf_spec.specs.Error.{Error}
 use Rattle.gimli_dwarf_spec.specs.Parsers.{value_of}
 use Rattle.gimli_dwarf_spec.specs.NumberParsers.{unsigned}
-use Rattle.gimli_dwarf_spec.specs.Results.{and_then, ◌>>=◌}
+use Rattle.gimli_dwarf_spec.specs.Results.{◌>>=◌}
 use Rattle.gimli_dwarf_spec.specs.Declarations.{Declaration, declaration_at}
 use Rattle.gimli_dwarf_spec.specs.UnitHeaders.{DebugUnit}
 use Rattle.gimli_dwarf_spec.specs.DwarfFiles.{DwarfFile}
@@ -23,6 +23,11 @@ bare facts = do
 -- those of a unit, refused exactly where its facts are
 abbrev pub bare_unit_facts : DwarfFile → DebugUnit → Result UnitFacts Error
 bare_unit_facts file u = bare (unit_facts file u)
+
+-- those of a unit that is whole, or bare
+abbrev pub unit_facts_or_bare : Bool → DwarfFile → DebugUnit → Result UnitFacts Error
+unit_facts_or_bare true file u = unit_facts file u
+unit_facts_or_bare false file u = bare_unit_facts file u
 
 -- ---- the root
 

@@ -1,5 +1,6 @@
 -- A file with the offsets of the abbreviation tables that are cached for it.
-use Rattle.std.specs.Prelude.{◌≡◌, ℕ, List, map, Option, IfSome}
+use Rattle.std.specs.Prelude.{◌≡◌, ◌≤◌, ◌==◌, ℕ, List, map, count_by, Option, IfSome}
+use Rattle.std.specs.List.{Contains}
 use Rattle.std.specs.FinMap.{keys}
 use Rattle.gimli_dwarf_spec.specs.TableCache.{TablesByOffset}
 use Rattle.gimli_dwarf_spec.specs.UnitHeaders.{DebugUnit, units_of}
@@ -23,6 +24,13 @@ offsets_of_tables units = map (λ u. u.abbrev_offset) units
 -- those of a file's units, up to the first unit that can't be read
 abbrev pub table_offsets : DwarfFile → List ℕ
 table_offsets file = offsets_of_tables (units_of file.offset_limit file.sections.debug_info)
+
+-- the tables that at least two units share are cached, and only tables of units are
+pub record SharesTables (sections : CachedFile) : Type 0 where
+  pub shared : (offset : ℕ) → 2 ≤ count_by (λ o. o == offset) (table_offsets sections.file)
+      → Contains sections.cached_offsets offset
+  pub of_units : (offset : ℕ) → Contains sections.cached_offsets offset
+      → Contains (table_offsets sections.file) offset
 
 -- the supplement, if there is one, is read with this limit of offsets
 abbrev pub SharesLimit : ℕ → Option CachedFile → Type 0

@@ -1,6 +1,7 @@
 pub use Rattle.gimli_dwarf_spec.specs.AbbreviationViews
 pub use Rattle.gimli_dwarf_spec.specs.Declarations
 pub use Rattle.gimli_dwarf_spec.specs.TableCache
+pub use Rattle.gimli_dwarf_spec.specs.CheckedTables
 pub use Rattle.gimli_dwarf_spec.specs.TableParsing
 pub use Rattle.gimli_dwarf_spec.specs.Calls
 pub use Rattle.gimli_dwarf_spec.specs.Parsers

@@ -1,6 +1,6 @@
 //! All sections of a file.
 
-ghost use Rattle.std.specs.Prelude.{◌≡◌, ◌≢◌, IsTrue, IfOk, OnOk, OnErr, IfErr, option_map, Ok, Err};
+ghost use Rattle.std.specs.Prelude.{◌≡◌, ◌≢◌, IsTrue, IfOk, OnOk, OnErr, IfErr, IfSome, option_map, Ok, Err};
 ghost use Rattle.std.specs.List.{Contains};
 ghost use Rattle.gimli_dwarf_spec.specs.Error.{Error};
 ghost use Rattle.gimli_dwarf_spec.specs.Calls.{ReturnsAsOrNoMemory, ReturnsOrNoMemory};
@@ -14,15 +14,15 @@ ghost use Rattle.gimli_dwarf_spec.specs.Splitting.{split_from};
 ghost use Rattle.gimli_dwarf_spec.specs.EntryViews.{entry_of};
 ghost use Rattle.gimli_dwarf_spec.specs.Results.{and_then};
 ghost use Rattle.gimli_dwarf_spec.specs.UnitFacts.{UnitFacts, unit_facts, root};
-ghost use Rattle.gimli_dwarf.specs.BareUnits.{bare_unit_facts, root_declarations};
+ghost use Rattle.gimli_dwarf.specs.BareUnits.{unit_facts_or_bare, root_declarations};
 
 use crate::holders::{DebugMacinfo, DebugMacro, DebugNames, DebugTypes};
 use crate::root::root_code;
 use crate::unit::Unit;
 use gimli_dwarf_spec::{
-    Abbreviations, AbbreviationsCache, DebugAbbrev, DebugAbbrevOffset, DebugAddr, DebugAranges,
-    DebugInfo, DebugInfoUnitHeadersIter, DebugLine, DebugLineStr, DebugRanges, DebugStr,
-    DebugStrOffset, DebugStrOffsets, DebuggingInformationEntry, DwarfFileType, Error,
+    Abbreviations, AbbreviationsCache, CheckedTables, DebugAbbrev, DebugAbbrevOffset, DebugAddr,
+    DebugAranges, DebugInfo, DebugInfoUnitHeadersIter, DebugLine, DebugLineStr, DebugRanges,
+    DebugStr, DebugStrOffset, DebugStrOffsets, DebuggingInformationEntry, DwarfFileType, Error,
     LocationLists, RangeLists, Reader, Section, UnitHeader,
 };
 use std::alloc::Global;
@@ -31,7 +31,7 @@ use std::rc::Rc;
 
 /// All sections of a file, and those of its supplement, if it has one (DWARF 5, 7.3.6). The cache
 /// has tables of this file's own `.debug_abbrev`, or why they can't be read, at some of their
-/// offsets.
+/// offsets. Of tables there that were checked and aren't kept one declaration each is.
 pub struct Dwarf<R: Reader> {
     pub debug_abbrev: DebugAbbrev<R>,
     pub debug_addr: DebugAddr<R>,
@@ -50,6 +50,7 @@ pub struct Dwarf<R: Reader> {
     pub file_type: DwarfFileType,
     pub sup: Option<Rc<Dwarf<R>>>,
     pub abbreviations_cache: AbbreviationsCache,
+    pub checked_tables: CheckedTables,
 }
 
 impl<R: Reader> Drop for Dwarf<R> {
@@ -72,6 +73,7 @@ impl<R: Reader> Drop for Dwarf<R> {
             file_type: _,
             sup: _,
             abbreviations_cache: _,
+            checked_tables: _,
         } = self;
     }
 }
@@ -80,6 +82,7 @@ impl<R: Reader> Model for Dwarf<R> {
     ghost use Rattle.std.specs.Prelude.{option_map, length};
     ghost use Rattle.gimli_dwarf_spec.specs.DwarfFiles.{dwarf_file};
     ghost use Rattle.gimli_dwarf_spec.specs.TableCache.{AreTablesOf};
+    ghost use Rattle.gimli_dwarf_spec.specs.CheckedTables.{AreDeclarationsOf};
     ghost use Rattle.gimli_dwarf.specs.CachedFiles.{CachedFile, cached_file, SharesLimit};
 
     ghost Value = { CachedFile };
@@ -103,6 +106,7 @@ impl<R: Reader> Model for Dwarf<R> {
     }) (option_map (λ s. s.value.file) d.sup)) d.abbreviations_cache };
 
     ghost invariant = { λ d. AreTablesOf d.debug_abbrev d.abbreviations_cache
+        × AreDeclarationsOf d.debug_abbrev d.checked_tables
         × SharesLimit R.Offset.limit (option_map (λ s. s.value) d.sup) };
 
     ghost size = { λ s. length s.file.supplements };
@@ -175,24 +179,31 @@ impl<R: Reader> Dwarf<R> {
         Unit::with_root(alloc, self, header, entry)
     }
 
-    /// The unit of a header as `unit_with_root` makes it, but without its declarations and the
-    /// header of its line number program: these are only checked, so it is refused exactly where
-    /// `unit_with_root` is. Its root comes in place of another entry, whose memory it takes. Beside
-    /// the unit's texts only the root's declaration takes memory; where the codes of a table that
-    /// isn't cached aren't 1, 2, .. in order, that table does too, for a time.
-    pub fn bare_unit_with_root(
+    /// The unit of a header as `unit_with_root` makes it, or bare: without its declarations and the
+    /// header of its line number program, which are only checked; and whether it is whole. It is
+    /// refused exactly where `unit_with_root` is. Its root comes in place of another entry, whose
+    /// memory it takes.
+    ///
+    /// A unit is whole unless its table is one that was only checked, or its root names a line
+    /// number program. It takes the memory of its texts, and that of its table unless the table is
+    /// cached. A bare unit takes that of its texts and of an empty table, and for a time that of its
+    /// root's declaration, or of a table that is neither checked nor cached.
+    pub fn unit_or_bare_with_root(
         &self,
         alloc: Global,
         header: UnitHeader<R>,
         entry: &mut DebuggingInformationEntry<R>,
-    ) -> Result<Unit<R>, Error>
-        ensures unit { ReturnsOrNoMemory result (bare_unit_facts self.now.file header) }
+    ) -> Result<(Unit<R>, bool), Error>
+        ensures unit { IfOk result (λ read.
+            unit_facts_or_bare read.1 self.now.file header ≡ Ok read.0) }
+        ensures refusal { IfErr result (λ e. e ≢ Memory
+            → unit_facts self.now.file header ≡ Err e) }
         // The root of the unit with its declarations.
         ensures root { OnOk result ((u : UnitFacts) → unit_facts self.now.file header ≡ Ok u
             → root self.now.file.offset_limit u.header u.table
             ≡ Ok (entry_of R.view R.Offset.count entry.new)) }
     {
-        Unit::bare_with_root(alloc, self, header, entry)
+        Unit::or_bare_with_root(alloc, self, header, entry)
     }
 
     // The abbreviation table at an offset, from the cache if it is there.
@@ -215,26 +226,25 @@ impl<R: Reader> Dwarf<R> {
         self.abbreviations_cache.get(alloc, section, offset)
     }
 
-    // The table of the root's declaration alone, or of none, where the unit's table hasn't its
-    // code. The unit's table is checked, from the cache if it is there.
-    pub(crate) fn root_declarations(
+    // The table of the root's declaration alone, where the unit's table was checked, and this
+    // declaration is kept of it. The only refusal is out of memory.
+    pub(crate) fn checked_declarations(
         &self,
         alloc: Global,
         header: &UnitHeader<R>,
-    ) -> Result<Abbreviations, Error>
-        ensures value { ReturnsOrNoMemory result
-            (and_then (table_at header.now.abbrev_offset self.now.file.sections.debug_abbrev)
-            (λ table. Ok (root_declarations header.now table))) }
+    ) -> Result<Option<Abbreviations>, Error>
+        ensures value { IfOk result (λ found. IfSome found (λ declarations.
+            and_then (table_at header.now.abbrev_offset self.now.file.sections.debug_abbrev)
+            (λ table. Ok (root_declarations header.now table)) ≡ Ok declarations)) }
+        ensures refusal { IfErr result (λ e. e ≡ Memory) }
         // Offsets in the file are the reader's.
         ensures limit { self.now.file.offset_limit ≡ R.Offset.limit }
     {
-        let section = &self.debug_abbrev;
         let offset = header.debug_abbrev_offset();
         let code = root_code(header);
-        let cache = &self.abbreviations_cache;
-        match cache.find_abbreviation(alloc, section, offset, code)? {
-            Some(declaration) => Abbreviations::of_one(alloc, declaration),
-            None => Abbreviations::empty(alloc),
+        match self.checked_tables.find(alloc, offset, code)? {
+            Some(declaration) => Ok(Some(Abbreviations::of_one(alloc, declaration)?)),
+            None => Ok(None),
         }
     }
 

@@ -4,12 +4,13 @@ ghost use Rattle.std.specs.Prelude.{◌≡◌, ◌⊎◌, [], ◌∷◌, IfOk, I
 ghost use Rattle.gimli_dwarf_spec.specs.Error.TheVariants.{Memory};
 ghost use Rattle.gimli_dwarf_spec.specs.DwarfFiles.{DwarfFile};
 ghost use Rattle.gimli_dwarf_spec.specs.TableCache.{chosen_tables};
-ghost use Rattle.gimli_dwarf.specs.CachedFiles.{cached_file, table_offsets};
+ghost use Rattle.gimli_dwarf.specs.CachedFiles.{cached_file, table_offsets, SharesTables};
 ghost use Rattle.gimli_dwarf.specs.SectionLoading.{Answers, RefusesOneOf, Loads, RefusesToLoad, with_supplement};
 
 use crate::dwarf::Dwarf;
+use crate::root::root_code;
 use gimli_dwarf_spec::{
-    AbbreviationsCache, AbbreviationsCacheStrategy, DebugAbbrev, DebugAbbrevOffset,
+    AbbreviationsCache, AbbreviationsCacheStrategy, CheckedTables, DebugAbbrev, DebugAbbrevOffset,
     DebugInfoUnitHeadersIter, DwarfFileType, Error, LocationLists, RangeLists, Reader, SectionId,
 };
 use std::alloc::{AllocError, Global};
@@ -73,6 +74,7 @@ impl<R: Reader> Dwarf<R> {
             file_type: DwarfFileType::Main,
             sup: None,
             abbreviations_cache: AbbreviationsCache::new(alloc),
+            checked_tables: CheckedTables::new(alloc),
         })
     }
 
@@ -123,6 +125,23 @@ impl<R: Reader> Dwarf<R> {
         self.abbreviations_cache
             .populate(alloc, strategy, &self.debug_abbrev, offsets)
     }
+
+    /// Caches the abbreviation tables that at least two of the file's units share, in place of those
+    /// before, and those that overlap with another one, up to the first unit that can't be read. Of
+    /// any other table it keeps only the declaration of its unit's root, and checks the rest. The
+    /// only refusal is out of memory.
+    pub fn share_tables(&mut self, alloc: Global) -> Result<(), Error>
+        ensures file { OnOk result (self.new.file ≡ self.old.file) }
+        ensures shared { OnOk result (SharesTables self.new) }
+        ensures unchanged { OnErr result (self.new ≡ self.old) }
+        ensures memory { IfErr result (λ e. e ≡ Memory) }
+    {
+        let units = self.units()?;
+        let roots = TableRoots { units: Some(units) };
+        let cache = &mut self.abbreviations_cache;
+        self.checked_tables = cache.populate_shared(alloc, &self.debug_abbrev, roots)?;
+        Ok(())
+    }
 }
 
 // The readers that a function gives for four sections, each asked for once, in order, or its first
@@ -170,6 +189,35 @@ impl<R: Reader> Iterator for TableOffsets<R> {
     fn next(&mut self) -> Option<Self::Item> {
         match self.units.as_mut()?.next() {
             Ok(Some(header)) => Some(Ok(header.debug_abbrev_offset())),
+            Ok(None) => None,
+            Err(fault) => {
+                self.units = None;
+                Some(Err(fault))
+            }
+        }
+    }
+}
+
+// The same, each with the code of its unit's root.
+#[derive(Drop)]
+struct TableRoots<R: Reader> {
+    units: Option<DebugInfoUnitHeadersIter<R>>,
+}
+
+impl<R: Reader> Iterator for TableRoots<R> {
+    ghost use Rattle.std.specs.Iterator.{at_most};
+    ghost use Rattle.gimli_dwarf.specs.OffsetCalls.{GivesOffset, answers_left};
+
+    type Item = Result<(DebugAbbrevOffset<R::Offset>, u64), Error>;
+
+    ghost next_gives = { λ old answer new.
+        GivesOffset R.Offset.limit (λ o. R.Offset.count o.0.0) old.units answer new.units };
+
+    ghost remaining = { λ s. at_most (answers_left R.Offset.limit s.units) };
+
+    fn next(&mut self) -> Option<Self::Item> {
+        match self.units.as_mut()?.next() {
+            Ok(Some(header)) => Some(Ok((header.debug_abbrev_offset(), root_code(&header)))),
             Ok(None) => None,
             Err(fault) => {
                 self.units = None;

@@ -1,8 +1,9 @@
 //! A unit and the facts of its root.
 
-ghost use Rattle.std.specs.Prelude.{◌≡◌, [], None, Ok, IfOk, OnOk, Option, Some, option_map, option_and_then};
+ghost use Rattle.std.specs.Prelude.{◌≡◌, ◌≢◌, [], None, Ok, Err, IfOk, IfErr, OnOk, Option, Some, option_map, option_and_then};
 ghost use Rattle.std.specs.Option.{option_or};
 ghost use Rattle.gimli_dwarf_spec.specs.Calls.{Returns, ReturnsAsOrNoMemory, ReturnsOrNoMemory};
+ghost use Rattle.gimli_dwarf_spec.specs.Error.TheVariants.{Memory};
 ghost use Rattle.gimli_dwarf_spec.specs.Results.{refusal_of};
 ghost use Rattle.gimli_dwarf_spec.specs.View.{View};
 ghost use Rattle.gimli_dwarf_spec.specs.AttributeValues.{raw_value_of};
@@ -10,14 +11,14 @@ ghost use Rattle.gimli_dwarf_spec.specs.EntryViews.{entry_of, raw_attributes};
 ghost use Rattle.gimli_dwarf_spec.specs.HeaderParsing.{header_at};
 ghost use Rattle.gimli_dwarf_spec.specs.Splitting.{relocated_from};
 ghost use Rattle.gimli_dwarf_spec.specs.UnitFacts.{UnitFacts, unit_facts, root, dwo_name, dwo_name_number, facts_of, readable_text, address_or_0, line_header_of, dwo_id_in, dwo_id_of};
-ghost use Rattle.gimli_dwarf.specs.BareUnits.{bare, bare_unit_facts};
+ghost use Rattle.gimli_dwarf.specs.BareUnits.{bare, unit_facts_or_bare};
 ghost use Rattle.gimli_dwarf.specs.Roots.{facts_without_texts, facts_with_texts, line_unit, facts_with_program};
 
 use crate::dwarf::Dwarf;
 use crate::root::{RootAttributes, UnitBases, read_root, root_entry};
 use gimli_dwarf_spec::{
-    Abbreviations, Attribute, AttributeValue, DW_AT_GNU_dwo_name, DW_AT_dwo_name, DebugAddrBase,
-    DebugLineOffset, DebugLocListsBase, DebugRngListsBase, DebugStrOffsetsBase,
+    Abbreviations, Attribute, AttributeValue, DW_AT_GNU_dwo_name, DW_AT_dwo_name, DW_AT_stmt_list,
+    DebugAddrBase, DebugLineOffset, DebugLocListsBase, DebugRngListsBase, DebugStrOffsetsBase,
     DebuggingInformationEntry, DwAt, DwoId, Error, LineProgramHeader, Reader, UnitHeader, UnitType,
 };
 use std::alloc::Global;
@@ -98,22 +99,35 @@ impl<R: Reader> Unit<R> {
         Unit::of_root(alloc, dwarf, header, abbreviations, entry.attrs())
     }
 
-    // The same without its declarations and the header of its line number program, which are only
-    // checked.
-    pub(crate) fn bare_with_root(
+    // The same, or without its declarations and the header of its line number program, which are
+    // only checked; and whether it is whole.
+    pub(crate) fn or_bare_with_root(
         alloc: Global,
         dwarf: &Dwarf<R>,
         header: UnitHeader<R>,
         entry: &mut DebuggingInformationEntry<R>,
-    ) -> Result<Self, Error>
-        ensures unit { ReturnsOrNoMemory result (bare_unit_facts dwarf.now.file header) }
+    ) -> Result<(Self, bool), Error>
+        ensures unit { IfOk result (λ read.
+            unit_facts_or_bare read.1 dwarf.now.file header ≡ Ok read.0) }
+        ensures refusal { IfErr result (λ e. e ≢ Memory
+            → unit_facts dwarf.now.file header ≡ Err e) }
         ensures root { OnOk result ((u : UnitFacts) → unit_facts dwarf.now.file header ≡ Ok u
             → root dwarf.now.file.offset_limit u.header u.table
             ≡ Ok (entry_of R.view R.Offset.count entry.new)) }
     {
-        let declarations = dwarf.root_declarations(alloc, &header)?;
-        read_root(&header, &declarations, entry)?;
-        Unit::bare_of_root(alloc, dwarf, header, entry.attrs())
+        if let Some(declarations) = dwarf.checked_declarations(alloc, &header)? {
+            read_root(&header, &declarations, entry)?;
+            let unit = Unit::bare_of_root(alloc, dwarf, header, entry.attrs())?;
+            return Ok((unit, false));
+        }
+        let abbreviations = dwarf.abbreviations(alloc, header.debug_abbrev_offset())?;
+        read_root(&header, &abbreviations, entry)?;
+        if entry.has_attr(DW_AT_stmt_list) {
+            let unit = Unit::bare_of_root(alloc, dwarf, header, entry.attrs())?;
+            return Ok((unit, false));
+        }
+        let unit = Unit::of_root(alloc, dwarf, header, abbreviations, entry.attrs())?;
+        Ok((unit, true))
     }
 
     // A unit whose root has these attributes.

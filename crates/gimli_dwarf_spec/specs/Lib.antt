@@ -1,6 +1,7 @@
 pub use Rattle.gimli_lines_header.specs.AbbreviationViews
 pub use Rattle.gimli_lines_header.specs.Declarations
 pub use Rattle.gimli_lines_header.specs.TableCache
+pub use Rattle.gimli_lines_header.specs.CheckedTables
 pub use Rattle.gimli_lines_header.specs.TableParsing
 pub use Rattle.gimli_units_entries.specs.Calls
 pub use Rattle.gimli_units_entries.specs.Parsers

@@ -5,7 +5,7 @@
 
 pub use gimli_lines_header::{
     Abbreviations, AbbreviationsCache, AbbreviationsCacheStrategy, Attribute,
-    AttributeSpecification, AttributeValue, DebugAbbrev, DebugAranges, DebugInfo,
+    AttributeSpecification, AttributeValue, CheckedTables, DebugAbbrev, DebugAranges, DebugInfo,
     DebugInfoUnitHeadersIter, DebugLine, LineProgramHeader, OffsetInSection, UnitHeader, UnitType,
 };
 pub use gimli_units_entries::unit::{entries_raw, first_code};

@@ -1,6 +1,7 @@
 pub use Rattle.gimli_units_forms.specs.AbbreviationViews
 pub use Rattle.gimli_units_forms.specs.Declarations
 pub use Rattle.gimli_units_forms.specs.TableCache
+pub use Rattle.gimli_units_forms.specs.CheckedTables
 pub use Rattle.gimli_units_forms.specs.TableParsing
 pub use Rattle.gimli_units_forms.specs.AttributeMeanings
 pub use Rattle.gimli_units_forms.specs.AttributeReading

@@ -18,7 +18,7 @@ pub use file::FileEntry;
 pub use formats::FileEntryFormat;
 pub use gimli_units_forms::{
     Abbreviations, AbbreviationsCache, AbbreviationsCacheStrategy, Attribute,
-    AttributeSpecification, AttributeValue, DebugAbbrev,
+    AttributeSpecification, AttributeValue, CheckedTables, DebugAbbrev,
 };
 pub use gimli_units_headers::{
     ArangeEntry, ArangeEntryIter, ArangeHeader, ArangeHeaderIter, DebugAranges, DebugInfo,

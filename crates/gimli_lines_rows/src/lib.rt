@@ -18,8 +18,9 @@ mod steps;
 
 pub use gimli_lines_header::{
     AbbreviationsCache, AbbreviationsCacheStrategy, ArangeEntry, ArangeEntryIter, ArangeHeader,
-    ArangeHeaderIter, Attribute, AttributeValue, DebugAbbrev, DebugAranges, DebugInfo, DebugLine,
-    FileEntry, FileEntryFormat, LineProgramHeader, UnitHeader, UnitType, header_laws,
+    ArangeHeaderIter, Attribute, AttributeValue, CheckedTables, DebugAbbrev, DebugAranges,
+    DebugInfo, DebugLine, FileEntry, FileEntryFormat, LineProgramHeader, UnitHeader, UnitType,
+    header_laws,
 };
 pub use gimli_lines_machine::{
     DW_AT_high_pc, DW_AT_language, DW_AT_low_pc, DW_AT_ranges, DebugAbbrevOffset, DebugAddr,

@@ -3,6 +3,7 @@ pub use Rattle.gimli_core_abbrev.specs.Declarations
 pub use Rattle.gimli_core_abbrev.specs.FormWidths
 pub use Rattle.gimli_core_abbrev.specs.Places
 pub use Rattle.gimli_core_abbrev.specs.TableCache
+pub use Rattle.gimli_core_abbrev.specs.CheckedTables
 pub use Rattle.gimli_core_abbrev.specs.TableParsing
 pub use Rattle.gimli_core_abbrev.specs.declared.abbreviation.AttributeSpecification
 pub mod FormSpellings

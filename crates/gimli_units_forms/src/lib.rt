@@ -9,7 +9,7 @@ pub mod value;
 
 pub use gimli_core_abbrev::{
     Abbreviation, Abbreviations, AbbreviationsCache, AbbreviationsCacheStrategy,
-    AttributeSpecification, DebugAbbrev, EndianSlice, borrowed, bytes_before,
+    AttributeSpecification, CheckedTables, DebugAbbrev, EndianSlice, borrowed, bytes_before,
 };
 pub use reading::{parse_attribute, parse_attribute_inline, push_attribute};
 pub use skipping::{short_number, skip_attributes, skip_declared, skip_entry};

@@ -17,7 +17,7 @@ use Rattle.addr2line_loader.specs.ElfDebugSections.{is_read, main_section}
 use Rattle.addr2line_loader.specs.ImageFiles.{offset_limit, bytes_or_none, main_file}
 use Rattle.addr2line_loader.specs.SectionLoading.{load_order}
 use Rattle.addr2line_loader.specs.SectionLoading as sections
-use Rattle.addr2line_loader.specs.LoadedFiles.{with_shared_tables, or_load_error, SharedContext, ImageParts, parts_with, parts_of, file_of_parts, loaded_file}
+use Rattle.addr2line_loader.specs.LoadedFiles.{or_load_error, SharedContext, ImageParts, parts_with, parts_of, file_of_parts, loaded_file}
 use Rattle.linemap_elf.specs.SpelledImages.{NamedBytes, all_sections}
 use Rattle.linemap_elf.specs.ImageLaws.{bytes_named, HoldsSections}
 use Rattle.linemap_emit.specs.BytesAt.{bytes_at}
@@ -177,9 +177,9 @@ module _ (e : Encoding) (is_big : Bool) (bytes : SectionBytes) (file : List ℕ)
   abbrev dwarf_context : FileContext
   dwarf_context = record { file = dwarf; context = table_answers.found }
 
-  -- the sections with the tables that are kept, and a context over them
+  -- the sections, and a context over them
   abbrev shared : FileContext → SharedContext
-  shared c = record { sections = with_shared_tables dwarf; context = c }
+  shared c = record { sections = dwarf; context = c }
 
   abbrev parts : ImageParts
   parts = record { symbols = []; debug = shared dwarf_context }

@@ -7,8 +7,8 @@ ghost use Rattle.linemap_text.specs.WordLaws.{file_of};
 ghost use Rattle.linemap_emit.specs.BytesAt.{bytes_at};
 
 use addr2line_context::{
-    AbbreviationsCache, DebugAbbrev, Dwarf, DwarfFileType, EndianSlice, LocationLists, RangeLists,
-    RunTimeEndian, SectionId,
+    AbbreviationsCache, CheckedTables, DebugAbbrev, Dwarf, DwarfFileType, EndianSlice,
+    LocationLists, RangeLists, RunTimeEndian, SectionId,
 };
 use linemap_emit::Sections;
 use std::alloc::Global;
@@ -56,5 +56,6 @@ pub fn dwarf_of(
         file_type: DwarfFileType::Main,
         sup: None,
         abbreviations_cache: AbbreviationsCache::new(alloc),
+        checked_tables: CheckedTables::new(alloc),
     }
 }

@@ -13,7 +13,7 @@ returns c =
     let file : LoadedFile = record {
       image = c.loader.inside.elf;
       symbols = c.loader.inside.symbols;
-      sections = c.loader.inside.sections.value;
+      sections = c.loader.inside.sections.value.file;
       context = c.loader.inside.context.value.plain;
       answers = c.loader.inside.context.value.answers;
     } in (

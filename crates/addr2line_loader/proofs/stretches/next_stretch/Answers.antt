@@ -8,7 +8,7 @@ returns-clause-free c =
     (record {
       image = c.loader.inside.elf;
       symbols = c.loader.inside.symbols;
-      sections = c.loader.inside.sections.value;
+      sections = c.loader.inside.sections.value.file;
       context = c.loader.inside.context.value.plain;
       answers = c.loader.inside.context.value.answers;
     })

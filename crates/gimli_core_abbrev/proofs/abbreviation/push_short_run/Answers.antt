@@ -1,6 +1,7 @@
-use Rattle.std.proofs.Common.{◌*◌, Some, arith}
-use Rattle.gimli_core_abbrev.specs.AbbreviationViews.{attribute_view}
-use Rattle.gimli_core_abbrev.proofs.AddedAttributes.{extends_further}
+use Rattle.std.proofs.Common.{◌*◌, [], ◌∷◌, Some, arith}
+use Rattle.gimli_core_abbrev.specs.AbbreviationViews.{attribute_view, added_view}
+use Rattle.gimli_core_abbrev.proofs.AddedAttributes.{extends_further, view_further}
+use Rattle.gimli_core_abbrev.proofs.ReadFacts.{more_further}
 use Rattle.gimli_core_abbrev.proofs.ShortRuns.{short_at, run_more}
 use Rattle.gimli_core_abbrev.proofs.abbreviation.push_short_run.Goals as goal
 
@@ -17,5 +18,9 @@ pushing-preserved c =
           c.push_reserved.ensures.items
           (short_at c.args.bytes.now (2 * c.pushing.count) (Some (attribute_view c.in-Some.attribute))
           (omega arith) c.in-Some.ensures);
+      knows = more_further c.args.facts.now c.pushing.known c.with-known.result (added_view old now)
+          (attribute_view c.in-Some.attribute ∷ []) (added_view old new) was.knows
+          (record { fits = c.with-known.ensures.fits; knows = c.with-known.ensures.knows })
+          (view_further old now new c.in-Some.attribute was.extends c.push_reserved.ensures.items);
       room = omega arith;
     }

@@ -8,7 +8,7 @@ use Rattle.gimli_core_readers.specs.Results.{refusal_of}
 use Rattle.gimli_core_abbrev.specs.TableParsing.{declaration, table}
 use Rattle.gimli_core_abbrev.specs.TableChecks.{IsInOrder}
 use Rattle.gimli_core_abbrev.proofs.ExactRefusals.{exactly_refused}
-use Rattle.gimli_core_abbrev.proofs.CheckedTables.{checked_ended, checked_counted, checked_refused, checked_unordered}
+use Rattle.gimli_core_abbrev.proofs.RunsInOrder.{checked_ended, checked_counted, checked_refused, checked_unordered}
 use Rattle.gimli_core_abbrev.proofs.checks.check.Goals as goal
 
 abbrev reads : View → Result (Unit {0}) Error

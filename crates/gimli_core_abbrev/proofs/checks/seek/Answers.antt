@@ -3,7 +3,7 @@ use Rattle.gimli_core_readers.specs.View.{View, bytes_left}
 use Rattle.gimli_core_readers.specs.Parsers.{map_value}
 use Rattle.gimli_core_abbrev.specs.TableParsing.{declaration}
 use Rattle.gimli_core_abbrev.proofs.SkippedDeclarations.{code_of, skipped_some, skipped_none, skipped_fault}
-use Rattle.gimli_core_abbrev.proofs.CheckedTables.{checked_unordered, not_in_order}
+use Rattle.gimli_core_abbrev.proofs.RunsInOrder.{checked_unordered, not_in_order}
 use Rattle.gimli_core_abbrev.proofs.FoundDeclarations.{find_refused, find_none, run_before, is_at, at_within, seeks_refused, seeks_nowhere, after_refused, after_ended, after_counted, after_unordered}
 use Rattle.gimli_core_abbrev.proofs.checks.seek.Goals as goal
 

@@ -1,6 +1,6 @@
 use Rattle.std.proofs.Common.{rules, arith, [], ◌∷◌, length-append}
 use Rattle.gimli_core_abbrev.proofs.SkippedDeclarations.{skipped_some, skipped_none}
-use Rattle.gimli_core_abbrev.proofs.CheckedTables.{run-none, run-more}
+use Rattle.gimli_core_abbrev.proofs.RunsInOrder.{run-none, run-more}
 use Rattle.gimli_core_abbrev.proofs.checks.skip_in_order.Goals as goal
 
 pub loop-passed-init : goal.loop-passed-init

@@ -34,14 +34,14 @@ returns-in_err-parsed g c =
 pub reading-smaller : goal.reading-smaller
 reading-smaller g c =
     let attributes = added_view c.reading.attributes.items c.parse.new.attributes.items in
-    item_smaller declarations-shrink c.reading.input (with_attributes attributes c.in-Some.parsed) c.parse.new.input
-    (parsed_item c.reading.input c.parse.new.input attributes c.in-Some.is c.in_ok-parsed.ensures.value)
+    item_smaller declarations-shrink c.reading.rest (with_attributes attributes c.in-Some.parsed) c.parse.new.input
+    (parsed_item c.reading.rest c.parse.new.input attributes c.in-Some.is c.in_ok-parsed.ensures.value)
 
 pub reading-smaller-then-code-place : goal.reading-smaller-then-code-place
 reading-smaller-then-code-place g c =
     let attributes = added_view c.reading.attributes.items c.parse.new.attributes.items in
-    item_smaller declarations-shrink c.reading.input (with_attributes attributes c.in-Some.parsed) c.parse.new.input
-    (parsed_item c.reading.input c.parse.new.input attributes c.in-Some.is c.in_ok-parsed.ensures.value)
+    item_smaller declarations-shrink c.reading.rest (with_attributes attributes c.in-Some.parsed) c.parse.new.input
+    (parsed_item c.reading.rest c.parse.new.input attributes c.in-Some.is c.in_ok-parsed.ensures.value)
 
 pub returns-then-has_place : goal.returns-then-has_place
 returns-then-has_place g c =
@@ -50,7 +50,7 @@ returns-then-has_place g c =
     let ds = stored l.in_order l.others.items l.attributes.items l.declarations.items in
     let attributes = added_view l.attributes.items c.parse.new.attributes.items in
     let a = with_attributes attributes c.in-Some.parsed in
-    let item = parsed_item l.input c.parse.new.input attributes c.in-Some.is c.in_ok-parsed.ensures.value in
+    let item = parsed_item l.rest c.parse.new.input attributes c.in-Some.is c.in_ok-parsed.ensures.value in
     let there : is_some (declaration_at a.code (by_code ds)) ≡ true =
     ap is_some (found_by_code a.code ds was.layout.once)
     ∙ sym (place_known ds l.in_order (get nat_cmp l.places) was.layout a.code)
@@ -66,7 +66,7 @@ reading-preserved-then-code-place g c =
     let ds = stored l.in_order l.others.items old l.declarations.items in
     let a = with_attributes (added_view old new) c.in-Some.parsed in
     let d : StoredDeclaration = record { end = c.len-end.result; head = c.in-Some.parsed.head } in
-    let item = parsed_item l.input c.parse.new.input (added_view old new) c.in-Some.is c.in_ok-parsed.ensures.value in
+    let item = parsed_item l.rest c.parse.new.input (added_view old new) c.in-Some.is c.in_ok-parsed.ensures.value in
     let absent : declaration_at a.code ds ≡ None = none_there (declaration_at a.code ds)
     (sym (place_known ds l.in_order (get nat_cmp l.places) was.layout a.code)
     ∙ sym c.has_place.ensures ∙ c.if-has_place.false) in
@@ -103,7 +103,7 @@ reading-preserved g c =
     let ds = stored l.in_order l.others.items old l.declarations.items in
     let a = with_attributes (added_view old new) c.in-Some.parsed in
     let d : StoredDeclaration = record { end = c.len-end.result; head = c.in-Some.parsed.head } in
-    let item = parsed_item l.input c.parse.new.input (added_view old new) c.in-Some.is c.in_ok-parsed.ensures.value in
+    let item = parsed_item l.rest c.parse.new.input (added_view old new) c.in-Some.is c.in_ok-parsed.ensures.value in
     let absent : declaration_at a.code ds ≡ None = none_there (declaration_at a.code ds)
     (sym (place_known ds l.in_order (get nat_cmp l.places) was.layout a.code)
     ∙ sym c.has_place.ensures ∙ c.if-has_place.false) in
@@ -115,7 +115,7 @@ reading-preserved g c =
       refl,
       of_parsed (λ p. KnowsAttributes p.head (added_view old new)) c.in-Some.is c.in_ok-parsed.ensures.knows,
     ) in
-    let counts = declaration-coded l.input a c.parse.new.input item in
+    let counts = declaration-coded l.rest a c.parse.new.input item in
     let others = c.push-else-in_order-place.new.self.items in
     let now = stays_elsewhere l.declarations.items c.push.new.self.items d l.in_order l.others.items others old
     (added old new) new a a.code c.len-place.result (get nat_cmp l.places) (get nat_cmp c.put_place.new.places)

@@ -14,9 +14,9 @@ invariant-reading g l = record {
   layout : IsLayout (stored l.in_order l.others.items l.attributes.items l.declarations.items) l.in_order
       (get nat_cmp l.places);
   listing : prepend (stored l.in_order l.others.items l.attributes.items l.declarations.items)
-      (listing_in bytes_left declaration l.input)
+      (listing_in bytes_left declaration l.rest)
       ≡ listing_in bytes_left declaration l.fn.input;
 }
 
 abbrev pub decreases-reading : goal.decreases-reading
-decreases-reading g l = bytes_left l.input
+decreases-reading g l = bytes_left l.rest

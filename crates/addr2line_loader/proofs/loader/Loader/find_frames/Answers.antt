@@ -15,7 +15,7 @@ returns-in_err-decided g c =
             (record {
               image = c.self.inside.elf;
               symbols = c.self.inside.symbols;
-              sections = c.self.inside.sections.value;
+              sections = c.self.inside.sections.value.file;
               context = c.self.inside.context.value.plain;
               answers = c.self.inside.context.value.answers;
             })
@@ -36,7 +36,7 @@ returns g c = (
         (record {
           image = c.self.inside.elf;
           symbols = c.self.inside.symbols;
-          sections = c.self.inside.sections.value;
+          sections = c.self.inside.sections.value.file;
           context = c.self.inside.context.value.plain;
           answers = c.self.inside.context.value.answers;
         })

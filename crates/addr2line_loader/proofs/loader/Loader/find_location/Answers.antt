@@ -13,7 +13,7 @@ returns c =
     let file : LoadedFile = record {
       image = c.self.inside.elf;
       symbols = c.self.inside.symbols;
-      sections = c.self.inside.sections.value;
+      sections = c.self.inside.sections.value.file;
       context = c.self.inside.context.value.plain;
       answers = c.self.inside.context.value.answers;
     } in (

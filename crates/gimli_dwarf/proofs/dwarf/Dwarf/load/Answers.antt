@@ -34,7 +34,11 @@ returns-in_err-debug_rnglists-clause-refusal g c =
     (refuses_among (goal.F-step g) _ _ _ _ _ _ twelve c.in_err-debug_rnglists.ensures.refusal))
 
 pub invariant_of-result : goal.invariant_of-result
-invariant_of-result g c = ((λ offset. rw (c.new-3.ensures.none offset) refl), tt)
+invariant_of-result g c = (
+  (λ offset. rw (c.new-3.ensures.none offset) refl),
+  (λ offset d found. let none = c.new-4.ensures.none offset in absurd cc),
+  tt,
+)
 
 pub returns-clause-cache : goal.returns-clause-cache
 returns-clause-cache g c = no_offsets _ c.new-3.ensures.empty
