@@ -58,9 +58,7 @@ impl<'a, R: Reader> HoldingUnit<'a, R> {
         }
     }
 
-    // The naming by attributes. Nothing is read after a linkage name. Compiled by itself, so that
-    // the reading of an attribute stays inlined in it.
-    #[inline(never)]
+    // The naming by attributes. Nothing is read after a linkage name.
     fn naming_in(
         &self,
         mut entries: EntriesRaw<'_, R>,

@@ -8,8 +8,8 @@ use crate::attributes::is_naming;
 use gimli_dwarf::{AttributeSpecification, EntriesRaw, Error, Reader, ReaderOffset};
 
 /// Reads the first attributes, up to one that a name may be made of. Returns the declarations of
-/// the others. Compiled by itself, so that the reading of an attribute stays inlined in it.
-#[inline(never)]
+/// the others.
+#[inline(always)]
 pub(crate) fn pass<'s, R: Reader>(
     entries: &mut EntriesRaw<'_, R>,
     specifications: &'s [AttributeSpecification],
