@@ -102,10 +102,10 @@ impl<R: Reader> Context<R> {
     ghost use Rattle.std.specs.Io.BufRead.{Rests};
     ghost use Rattle.addr2line_context.specs.contracts.context.Context.{the_row};
 
-    /// The context of a file's sections. It goes through the abbreviation tables of the file's units
-    /// first, once each, and keeps those that units share, what these have in common once; of each
-    /// other it keeps the declaration of the unit's root. It takes memory for them and for what shares
-    /// the sections, and else is `from_arc_dwarf`.
+    /// The context of a file's sections. It goes through the abbreviation tables of the file's
+    /// units first, once each, and keeps those that units share, what these have in common once; of
+    /// each other it keeps the declaration of the unit's root. It takes memory for them and for
+    /// what shares the sections, and else is `from_arc_dwarf`.
     pub fn from_dwarf(alloc: Global, sections: Dwarf<R>) -> Result<Self, Error>
         ensures context { ReturnsAsOrNoMemory (λ c. c.value.plain) result
             (file_context sections.file) }

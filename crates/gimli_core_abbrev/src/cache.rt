@@ -106,14 +106,14 @@ impl AbbreviationsCache {
         Ok(())
     }
 
-    /// Reads or checks the tables of a section at these offsets, each of which comes with a code, in
-    /// place of those before. Kept are the tables of offsets that occur twice or more, and those that
-    /// overlap with another one: that begin at a declaration of one that was kept, or end after the
-    /// next offset. They share their declarations as by [`populate`](Self::populate). Any other table
-    /// is skipped once, which takes no memory, and only its declaration of the code is kept, in what
-    /// is returned. This is so where the codes are 1, 2, .. in order, as in nearly all tables; the
-    /// others are kept, and so are those that haven't the code, and the refusals of those that can't
-    /// be read.
+    /// Reads or checks the tables of a section at these offsets, each of which comes with a code,
+    /// in place of those before. Kept are the tables of offsets that occur twice or more, and those
+    /// that overlap with another one: that begin at a declaration of one that was kept, or end
+    /// after the next offset. They share their declarations as by [`populate`](Self::populate). Any
+    /// other table is skipped once, which takes no memory, and only its declaration of the code is
+    /// kept, in what is returned. This is so where the codes are 1, 2, .. in order, as in nearly
+    /// all tables; the others are kept, and so are those that haven't the code, and the refusals of
+    /// those that can't be read.
     ///
     /// A fault among the offsets ends them. The only refusal is out of memory, and then nothing
     /// changes. Takes at most twice the memory of `populate` for lists, and three times its time.

@@ -54,7 +54,7 @@ fn skip_in_order<R: Reader>(input: &mut R, first: u64, limit: u64) -> Result<Ski
 }
 
 // The declaration of a code in a table that can be read and whose codes are 1, 2, .., if it has one
-// and ends where at least so many bytes are left. Only the declaration's attributes take memory.
+// and ends where at least `left` bytes are left. Only the declaration's attributes take memory.
 pub(crate) fn find_alone<R: Reader>(
     alloc: Global,
     reader: &R,

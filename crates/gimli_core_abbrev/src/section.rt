@@ -138,7 +138,7 @@ impl<R: Reader> DebugAbbrev<R> {
     }
 
     // The declaration of a code in the table at an offset, where that can be read, its codes are
-    // 1, 2, .., and it ends where at least so many bytes of the section are left.
+    // 1, 2, .., and it ends where at least `left` bytes of the section are left.
     pub(crate) fn find_alone(
         &self,
         alloc: Global,

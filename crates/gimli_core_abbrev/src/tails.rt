@@ -54,9 +54,10 @@ pub(crate) fn next_table<R: Reader>(
     }
 }
 
-// The declaration of a code in the table at an offset, where this is not that of a declaration of the
-// list that was read last, and the table can be read, has the codes 1, 2, .. and ends where at least
-// so many bytes of the section are left. Else nothing, and the list goes on to the offset, if it can.
+// The declaration of a code in the table at an offset, where this is not that of a declaration of
+// the list that was read last, and the table can be read, has the codes 1, 2, .. and ends where at
+// least `left` bytes of the section are left. Else nothing, and the list goes on to the offset, if
+// it can.
 pub(crate) fn find_apart<R: Reader>(
     alloc: Global,
     section: &DebugAbbrev<R>,

@@ -186,8 +186,8 @@ impl<R: Reader> Dwarf<R> {
     ///
     /// A unit is whole unless its table is one that was only checked, or its root names a line
     /// number program. It takes the memory of its texts, and that of its table unless the table is
-    /// cached. A bare unit takes that of its texts and of an empty table, and for a time that of its
-    /// root's declaration, or of a table that is neither checked nor cached.
+    /// cached. A bare unit takes that of its texts and of an empty table, and for a time that of
+    /// its root's declaration, or of a table that is neither checked nor cached.
     pub fn unit_or_bare_with_root(
         &self,
         alloc: Global,

@@ -126,10 +126,10 @@ impl<R: Reader> Dwarf<R> {
             .populate(alloc, strategy, &self.debug_abbrev, offsets)
     }
 
-    /// Caches the abbreviation tables that at least two of the file's units share, in place of those
-    /// before, and those that overlap with another one, up to the first unit that can't be read. Of
-    /// any other table it keeps only the declaration of its unit's root, and checks the rest. The
-    /// only refusal is out of memory.
+    /// Caches the abbreviation tables that at least two of the file's units share, in place of
+    /// those before, and those that overlap with another one, up to the first unit that can't be
+    /// read. Of any other table it keeps only the declaration of its unit's root, and checks the
+    /// rest. The only refusal is out of memory.
     pub fn share_tables(&mut self, alloc: Global) -> Result<(), Error>
         ensures file { OnOk result (self.new.file ≡ self.old.file) }
         ensures shared { OnOk result (SharesTables self.new) }
