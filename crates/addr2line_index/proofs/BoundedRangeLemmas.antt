@@ -1,20 +1,19 @@
 -- Where a search among ranges by their ends starts and stops.
-use Rattle.std.proofs.Common.{◌≡◌, ℕ, zero, suc, ◌+◌, ◌-◌, ◌<◌, ◌≤◌, min, Bool, true, false, cond, nat_lt, nat_le, List, [], ◌∷◌, ◌++◌, length, map, drop, take, reverse, filter, get_or, refl, sym, ap, ◌∙◌, subst, arith, append_assoc}
+use Rattle.std.proofs.Common.{◌≡◌, ℕ, zero, suc, ◌+◌, ◌-◌, ◌<◌, ◌≤◌, min, Bool, true, false, cond, nat_lt, nat_le, List, [], ◌∷◌, ◌++◌, length, map, drop, reverse, filter, get_or, refl, sym, ap, ◌∙◌, subst, arith, append_assoc}
 use Rattle.std.specs.Prelude.{◌&&◌, ◌||◌, Option, Some, None, MatchOption}
 use Rattle.std.specs.List.{prefix_len}
 use Rattle.std.specs.List.Sorted.{IsNonDecreasingBy, IsPartitionPoint, IsPartitionedBy}
 use Rattle.std.proofs.lemmas.Bool.Decides.{nat_tests}
-use Rattle.std.proofs.lemmas.List.{get_or-map, length-map, length-drop, take_all, drop_all, reverse-append}
+use Rattle.std.proofs.lemmas.List.{get_or-map, length-map, drop_all, reverse-append}
 use Rattle.std.proofs.lemmas.List.Elements.{filter-append}
 use Rattle.std.proofs.lemmas.List.Sums.{prefix_len_is}
 use Rattle.std.proofs.lemmas.List.Sorted.{IsPartitionedBy-leb}
 use Rattle.addr2line_spec.specs.Range.{Range}
-use Rattle.addr2line_spec.specs.Choice.{holds}
 use Rattle.addr2line_spec.specs.Pairs.{overlaps}
 use Rattle.addr2line_index.specs.declared.unit_range.UnitRange.{UnitRange}
 use Rattle.addr2line_index.specs.declared.shared_range.SharedRange.{SharedRange}
 use Rattle.addr2line_index.specs.declared.bounded_range.BoundedRange.{BoundedRange}
-use Rattle.addr2line_index.specs.NumberedRanges.{covering_ranges, overlapping_ranges}
+use Rattle.addr2line_index.specs.NumberedRanges.{overlapping_ranges}
 use Rattle.addr2line_index.specs.SharedRanges.{in_units, more_units, pairs_in, count_in_all}
 use Rattle.addr2line_index.proofs.SharedRangeLemmas.{shared_end, filter-units}
 use Rattle.addr2line_index.specs.BoundedRanges.{least_begin, shared_in, ranges_in, IsBounded, CountsFrom, end_of, ends_by, is_skipped, IsInOrder, IsCounted, index_of, pairs_left, IsBehind, IsNextPair, IsNextOverlap}
@@ -56,11 +55,6 @@ reverse-push made pushed e is = ap reverse is ∙ reverse-append made (e ∷ [])
 
 -- ---- what is known of bounded ranges
 
-pub bounded_drop : (n : ℕ) (es : List BoundedRange) → IsBounded es → IsBounded (drop n es)
-bounded_drop zero es is = is
-bounded_drop (suc n) [] is = tt
-bounded_drop (suc n) (e ∷ es) is = bounded_drop n es is.1
-
 pub bounded_at : (n : ℕ) (es : List BoundedRange) (d : BoundedRange) → n < length es → IsBounded es
     → (get_or es n d).least_begin ≡ least_begin (drop n es)
 bounded_at n [] d below is = absurd (omega arith)
@@ -84,70 +78,29 @@ and_false : (b : Bool) → b && false ≡ false
 and_false true = refl
 and_false false = refl
 
-above_le : (a b : ℕ) → a < b → nat_le b a ≡ false
-above_le a b h = grind (arith, nat_tests)
-
 above_lt : (a b : ℕ) → a ≤ b → nat_lt b a ≡ false
 above_lt a b h = grind (arith, nat_tests)
 
 le_above : (a b : ℕ) → nat_le b a ≡ true → b ≤ a
 le_above a b h = grind (arith, nat_tests)
 
--- what begins above an address doesn't hold it
-above_holds_not : (a begin end : ℕ) → a < begin → holds a (record { begin = begin; end = end }) ≡ false
-above_holds_not a begin end h = ap (λ b. b && nat_lt a end) (above_le a begin h)
-
-covering_step : (a : ℕ) (e : BoundedRange) (es : List BoundedRange) → covering_ranges a (ranges_in (e ∷ es))
-    ≡ cond (holds a e.shared.range) (pairs_in e.shared) [] ++ covering_ranges a (ranges_in es)
-covering_step a e es =
-    filter-append (λ (x : UnitRange). holds a x.range) (pairs_in e.shared) (ranges_in es)
-    ∙ ap (λ l. l ++ covering_ranges a (ranges_in es))
-    (filter-units (holds a) e.shared.range e.shared.first (more_units e.shared))
-
-pub covering_found : (a : ℕ) (e : BoundedRange) (es : List BoundedRange) → holds a e.shared.range ≡ true
-    → covering_ranges a (ranges_in (e ∷ es)) ≡ pairs_in e.shared ++ covering_ranges a (ranges_in es)
-covering_found a e es is =
-    covering_step a e es ∙ ap (λ b. cond b (pairs_in e.shared) [] ++ covering_ranges a (ranges_in es)) is
-
-pub covering_skipped : (a : ℕ) (e : BoundedRange) (es : List BoundedRange) → holds a e.shared.range ≡ false
-    → covering_ranges a (ranges_in (e ∷ es)) ≡ covering_ranges a (ranges_in es)
-covering_skipped a e es is =
-    covering_step a e es ∙ ap (λ b. cond b (pairs_in e.shared) [] ++ covering_ranges a (ranges_in es)) is
-
-pub none_covers : (a : ℕ) (es : List BoundedRange) → a < least_begin es → covering_ranges a (ranges_in es) ≡ []
-none_covers a [] h = refl
-none_covers a (e ∷ es) h =
-    covering_skipped a e es (above_holds_not a e.shared.range.begin e.shared.range.end (omega arith))
-    ∙ none_covers a es (omega arith)
-
 above_overlaps_not : (low high begin end : ℕ) → high ≤ begin
     → overlaps low high (record { begin = begin; end = end }) ≡ false
 above_overlaps_not low high begin end h =
     ap (λ b. nat_lt low end && b) (above_lt high begin h) ∙ and_false (nat_lt low end)
 
--- ---- where it starts
+-- none begins below 0
+pub none_below : (low : ℕ) (rs : List UnitRange) → overlapping_ranges low 0 rs ≡ []
+none_below low [] = refl
+none_below low (r ∷ rs) =
+    ap (λ b. cond b (r ∷ overlapping_ranges low 0 rs) (overlapping_ranges low 0 rs))
+    (above_overlaps_not low 0 r.range.begin r.range.end (omega arith))
+    ∙ none_below low rs
 
-ended_holds_not : (a begin end : ℕ) → nat_le end a ≡ true → holds a (record { begin = begin; end = end }) ≡ false
-ended_holds_not a begin end h =
-    ap (λ b. nat_le begin a && b) (above_lt end a (le_above a end h)) ∙ and_false (nat_le begin a)
+-- ---- where it starts
 
 one_before : (n : ℕ) → 1 + n ≡ suc n
 one_before n = omega arith
-
--- those that end at or below an address don't cover it
-pub covering_start : (a : ℕ) (es : List BoundedRange)
-    → covering_ranges a (ranges_in (drop (prefix_len (ends_by a) es) es)) ≡ covering_ranges a (ranges_in es)
-covering_start a [] = refl
-covering_start a (e ∷ es) =
-    elim (ends_by a e) as (λ b. ends_by a e ≡ b
-    → covering_ranges a (ranges_in (drop (cond b (1 + prefix_len (ends_by a) es) 0) (e ∷ es)))
-    ≡ covering_ranges a (ranges_in (e ∷ es))) [
-      | true ↦ λ ended.
-          ap (λ n. covering_ranges a (ranges_in (drop n (e ∷ es)))) (one_before (prefix_len (ends_by a) es))
-          ∙ covering_start a es
-          ∙ sym (covering_skipped a e es (ended_holds_not a e.shared.range.begin e.shared.range.end ended))
-      | false ↦ λ _. refl
-    ] refl
 
 ended_overlaps_not : (low high begin end : ℕ) → nat_le end low ≡ true
     → overlaps low high (record { begin = begin; end = end }) ≡ false
@@ -332,11 +285,6 @@ module _ (low high : ℕ) where
       (above_overlaps_not low high e.shared.range.begin e.shared.range.end (omega arith)))
       ∙ none_overlap from es (omega arith)
 
-  pub stop_overlapping : (place from : ℕ) (es : List BoundedRange) (d : BoundedRange) → place < length es
-      → IsBounded es → high ≤ (get_or es place d).least_begin → overlapping (all_left from (drop place es)) ≡ []
-  stop_overlapping place from es d below bounded over =
-      none_overlap from (drop place es) (omega (arith, bounded_at place es d below bounded))
-
   -- what is skipped has none that overlaps
   skipped_not : (from : ℕ) (e : BoundedRange) → IsCounted e → is_skipped from low e ≡ true
       → overlapping (pairs_left from e) ≡ []
@@ -362,6 +310,13 @@ module _ (low high : ℕ) where
             ∙ ap (λ l. l ++ overlapping (all_left from es)) (skipped_not from e (omega arith) skipped))
         | false ↦ λ _. refl
       ] refl
+
+-- the search stops where all that are left begin above the last address
+pub stop_overlapping : (low last place from : ℕ) (es : List BoundedRange) (d : BoundedRange) → place < length es
+    → IsBounded es → last < (get_or es place d).least_begin
+    → overlapping_ranges low (last + 1) (all_left from (drop place es)) ≡ []
+stop_overlapping low last place from es d below bounded over =
+    none_overlap low (last + 1) from (drop place es) (omega (arith, bounded_at place es d below bounded))
 
 -- ---- order
 
@@ -417,52 +372,10 @@ skipped_first from low es is i j d le below h =
     (nat_le (get_or es i d).after from) (IsPartitionedBy-leb end_of es low is.0 i j d le below)
     (IsPartitionedBy-leb (λ (e : BoundedRange). e.after) es from (counts_rise 0 es is.2) i j d le below) h
 
--- the first that isn't skipped, right after one that is
-pub first_left : (from low n : ℕ) (es : List BoundedRange) (d : BoundedRange) → IsInOrder es → n < length es
-    → is_skipped from low (get_or es n d) ≡ false → is_skipped from low (get_or es (n - 1) d) ≡ true
+-- the first that isn't skipped, or the place after the last, right after one that is
+pub first_left : (from low n : ℕ) (es : List BoundedRange) (d : BoundedRange) → IsInOrder es → 0 < n → n ≤ length es
+    → (n < length es → is_skipped from low (get_or es n d) ≡ false) → is_skipped from low (get_or es (n - 1) d) ≡ true
     → n ≡ prefix_len (is_skipped from low) es
-first_left from low n es d order within here before =
-    sym (prefix_len_is (is_skipped from low) es n d (omega arith)
-    (λ k below. skipped_first from low es order k (n - 1) d (omega arith) (omega arith) before) (λ _. here))
-
--- ---- steps of a walk
-
-pub stop_covering : (a : ℕ) (es : List BoundedRange) (d : BoundedRange) → 1 ≤ length es → IsBounded es
-    → a < (get_or es 0 d).least_begin → covering_ranges a (ranges_in es) ≡ []
-stop_covering a es d some bounded below = none_covers a es (omega (arith, bounded_at 0 es d (omega arith) bounded))
-
--- what is left of a list from a place on
-pub rest_of : (n : ℕ) (es : List BoundedRange) → take (length es - n) (drop n es) ≡ drop n es
-rest_of n es =
-    ap (λ k. take k (drop n es)) (sym (length-drop n es)) ∙ take_all (length (drop n es)) (drop n es) (omega arith)
-
--- the ranges after the first
-abbrev pub after_first : List BoundedRange → List BoundedRange
-after_first es = take (length es - 1) (drop 1 es)
-
-pub is_held : (a begin end : ℕ) → begin ≤ a → a < end → holds a (record { begin = begin; end = end }) ≡ true
-is_held a begin end low high = grind (arith, nat_tests)
-
-pub is_below : (a begin end : ℕ) → a < begin → holds a (record { begin = begin; end = end }) ≡ false
-is_below a begin end h = above_holds_not a begin end h
-
-pub is_above : (a begin end : ℕ) → end ≤ a → holds a (record { begin = begin; end = end }) ≡ false
-is_above a begin end h = grind (arith, nat_tests)
-
-pub first_holds : (a : ℕ) (es : List BoundedRange) (d : BoundedRange) → 1 ≤ length es
-    → holds a (get_or es 0 d).shared.range ≡ true → covering_ranges a (ranges_in es)
-    ≡ pairs_in (get_or es 0 d).shared ++ covering_ranges a (ranges_in (after_first es))
-first_holds a [] d some is = absurd (omega arith)
-first_holds a (e ∷ es) d some is =
-    covering_found a e es is
-    ∙ ap (λ l. pairs_in e.shared ++ covering_ranges a (ranges_in l)) (sym (rest_of 1 (e ∷ es)))
-
-pub first_holds_not : (a : ℕ) (es : List BoundedRange) (d : BoundedRange) → 1 ≤ length es
-    → holds a (get_or es 0 d).shared.range ≡ false
-    → covering_ranges a (ranges_in (after_first es)) ≡ covering_ranges a (ranges_in es)
-first_holds_not a [] d some is = absurd (omega arith)
-first_holds_not a (e ∷ es) d some is =
-    ap (λ l. covering_ranges a (ranges_in l)) (rest_of 1 (e ∷ es)) ∙ sym (covering_skipped a e es is)
-
-pub bounded_after_first : (es : List BoundedRange) → IsBounded es → IsBounded (after_first es)
-bounded_after_first es is = subst IsBounded (sym (rest_of 1 es)) (bounded_drop 1 es is)
+first_left from low n es d order some within here before =
+    sym (prefix_len_is (is_skipped from low) es n d within
+    (λ k below. skipped_first from low es order k (n - 1) d (omega arith) (omega arith) before) here)

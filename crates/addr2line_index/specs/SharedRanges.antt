@@ -1,6 +1,6 @@
 -- Ranges that several units in a row have: each is kept once, and stands for one pair with each of
 -- the units.
-use Rattle.std.specs.Prelude.{◌≡◌, ℕ, zero, suc, ◌+◌, ◌-◌, ◌<◌, ◌≤◌, List, [], ◌∷◌, ◌++◌, map, Option, Some, None}
+use Rattle.std.specs.Prelude.{◌≡◌, ℕ, zero, suc, ◌+◌, ◌-◌, ◌<◌, ◌≤◌, List, [], ◌∷◌, ◌++◌, map}
 use Rattle.addr2line_spec.specs.Range.{Range}
 use Rattle.addr2line_index.specs.declared.unit_range.UnitRange.{UnitRange}
 use Rattle.addr2line_index.specs.declared.shared_range.SharedRange.{SharedRange}
@@ -18,11 +18,6 @@ more_units s = s.last - s.first
 -- the pairs of a range and its units
 abbrev pub pairs_in : SharedRange → List UnitRange
 pairs_in s = in_units s.range s.first (more_units s)
-
--- those of a range, if there is one
-abbrev pub pairs_left_in : Option SharedRange → List UnitRange
-pairs_left_in None = []
-pairs_left_in (Some s) = pairs_in s
 
 -- those of several ranges
 abbrev pub pairs_in_all : List SharedRange → List UnitRange

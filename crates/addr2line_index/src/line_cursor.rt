@@ -85,22 +85,27 @@ fn stretch_at_place(
 }
 
 impl LineIndex {
-    /// Where a walk over the rows from a low end on begins. It is a search.
-    pub fn cursor_from(&self, low: u64, probes: &mut Probes) -> LineCursor
+    /// Where a walk over the rows from a low end on begins, if there are rows for it. It is a
+    /// search.
+    pub fn cursor_from(&self, low: u64, probes: &mut Probes) -> Option<LineCursor>
         requires counter { probes.old.name ≡ self.now.counter }
-        ensures lines { (high : ℕ) → lines_left self.now.lines low high result
-            ≡ lines_between self.now.lines low high }
+        ensures lines { MatchOption result
+            ((high : ℕ) → lines_between self.now.lines low high ≡ [])
+            (λ c. (high : ℕ) → lines_left self.now.lines low high c
+            ≡ lines_between self.now.lines low high) }
         ensures cost { AtMostProbes (digit_count (length self.now.lines.sequences))
             probes.old probes.new }
     {
         let lines = self.indexed();
-        LineCursor {
-            place: RowPlace {
-                sequence: lines.len(),
-                row: 0,
-            },
-            next: lines.first_from(low, probes),
+        let next = lines.first_from(low, probes);
+        if next >= lines.len() {
+            return None;
         }
+        let place = RowPlace {
+            sequence: lines.len(),
+            row: 0,
+        };
+        Some(LineCursor { place, next })
     }
 
     /// The next row between two ends, with its addresses, and how far the walk came with it. The

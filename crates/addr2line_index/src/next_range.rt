@@ -1,34 +1,21 @@
 //! The next range from an index on.
 
-ghost use Rattle.std.specs.Prelude.{◌≡◌, ◌≤◌, ◌∷◌, [], true, drop, length, MatchOption};
+ghost use Rattle.std.specs.Prelude.{◌≡◌, ◌+◌, ◌∷◌, [], true, drop, MatchOption};
 ghost use Rattle.std.specs.List.{prefix_len};
-ghost use Rattle.std.specs.List.Sorted.{IsNonDecreasingBy};
 ghost use Rattle.addr2line_spec.specs.Pairs.{overlaps};
 ghost use Rattle.addr2line_index.specs.NumberedRanges.{overlapping_ranges};
-ghost use Rattle.addr2line_index.specs.BoundedRanges.{ranges_in, end_of, ends_by, is_skipped, pairs_left, IsCounted, IsNextOverlap, IsInOrder};
+ghost use Rattle.addr2line_index.specs.BoundedRanges.{ranges_in, is_skipped, pairs_left, IsCounted, IsNextOverlap, IsInOrder};
 
 use crate::bounded_range::BoundedRange;
 use crate::range_place::RangePlace;
 use crate::unit_range::UnitRange;
 use addr2line_spec::Range;
 
-fn overlaps(range: Range, low: u64, high: u64) -> bool
-    ensures { result ≡ overlaps low high range }
+// Whether a range ends above one address, and begins at or below another.
+fn overlaps(range: Range, low: u64, last: u64) -> bool
+    ensures { result ≡ overlaps low (last + 1) range }
 {
-    low < range.end && range.begin < high
-}
-
-// How many of ranges by their ends end at or below an address. It is a bisection.
-pub(crate) fn count_ending_by(entries: &[BoundedRange], address: u64) -> usize
-    requires { IsNonDecreasingBy end_of entries.now }
-    ensures count { result ≡ prefix_len (ends_by address) entries.now }
-    ensures within { result ≤ length entries.now }
-{
-    entries.partition_point(
-        |entry: &BoundedRange| -> bool
-            ensures { result ≡ ends_by address entry.now }
-        { entry.shared.range.end <= address },
-    )
+    low < range.end && range.begin <= last
 }
 
 // Whether a range ends at or below an address, or has all its pairs before an index.
@@ -38,12 +25,15 @@ fn is_skipped(entry: &BoundedRange, from: usize, address: u64) -> bool
     entry.shared.range.end <= address || entry.after <= from
 }
 
-// Whether a place is that of the first that isn't skipped.
+// Whether a place is that of the first that isn't skipped, or the one after the last if all are.
 fn is_first_left(entries: &[BoundedRange], place: usize, from: usize, address: u64) -> bool
     requires { IsInOrder entries.now }
     ensures { result ≡ true → place ≡ prefix_len (is_skipped from address) entries.now }
 {
-    if place >= entries.len() || is_skipped(&entries[place], from, address) {
+    if place > entries.len() {
+        return false;
+    }
+    if place < entries.len() && is_skipped(&entries[place], from, address) {
         return false;
     }
     if place == 0 {
@@ -68,19 +58,20 @@ fn count_skipped(entries: &[BoundedRange], first: usize, from: usize, address: u
     )
 }
 
-// The first pair of a range from an index among all pairs on, if the range overlaps what lies
-// between two ends, and the index after it.
+// The first pair of a range from an index among all pairs on, if the range ends above one address
+// and begins at or below another, and the index after it.
 fn pair_between(
     entry: &BoundedRange,
     from: usize,
     low: u64,
-    high: u64,
+    last: u64,
 ) -> Option<(UnitRange, usize)>
     requires { IsCounted entry.now }
-    ensures { MatchOption result (overlapping_ranges low high (pairs_left from entry.now) ≡ [])
-        (IsNextOverlap low high from entry.now) }
+    ensures { MatchOption result
+        (overlapping_ranges low (last + 1) (pairs_left from entry.now) ≡ [])
+        (IsNextOverlap low (last + 1) from entry.now) }
 {
-    if overlaps(entry.shared.range, low, high) {
+    if overlaps(entry.shared.range, low, last) {
         entry.pair_from(from)
     } else {
         None
@@ -99,28 +90,29 @@ fn place_after(index: usize, place: usize, entry: &BoundedRange) -> RangePlace
     RangePlace { index, entry }
 }
 
-// The first pair from an index on whose range overlaps what lies between two ends, and the place
-// after it. It looks at an entry first.
+// The first pair from an index on whose range ends above one address and begins at or below
+// another, and the place after it. It looks at an entry first.
+#[inline(always)]
 pub(crate) fn next_overlapping(
     entries: &[BoundedRange],
     first: usize,
     from: usize,
     low: u64,
-    high: u64,
+    last: u64,
 ) -> Option<(UnitRange, RangePlace)>
     requires { IsInOrder entries.now }
     ensures { MatchOption result
-        (overlapping_ranges low high (drop from (ranges_in entries.now)) ≡ [])
-        (λ f. overlapping_ranges low high (drop from (ranges_in entries.now))
-        ≡ f.0 ∷ overlapping_ranges low high (drop f.1.index (ranges_in entries.now))) }
+        (overlapping_ranges low (last + 1) (drop from (ranges_in entries.now)) ≡ [])
+        (λ f. overlapping_ranges low (last + 1) (drop from (ranges_in entries.now))
+        ≡ f.0 ∷ overlapping_ranges low (last + 1) (drop f.1.index (ranges_in entries.now))) }
 {
     let mut place = count_skipped(entries, first, from, low);
     while place < entries.len() {
         let entry = &entries[place];
-        if high <= entry.least_begin {
+        if last < entry.least_begin {
             return None;
         }
-        if let Some((range, next)) = pair_between(entry, from, low, high) {
+        if let Some((range, next)) = pair_between(entry, from, low, last) {
             return Some((range, place_after(next, place, entry)));
         }
         place += 1;

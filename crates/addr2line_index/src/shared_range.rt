@@ -1,9 +1,7 @@
 //! A range of several units.
 
-ghost use Rattle.std.specs.Prelude.{◌≡◌, ◌-◌, ◌∷◌};
-ghost use Rattle.addr2line_index.specs.SharedRanges.{pairs_in, pairs_left_in};
+ghost use Rattle.std.specs.Prelude.{◌≡◌, ◌-◌};
 
-use crate::unit_range::UnitRange;
 use addr2line_spec::Range;
 
 /// A range that each of the units from one number to another covers.
@@ -20,22 +18,5 @@ impl SharedRange {
         ensures { result ≡ self.now.last - self.now.first }
     {
         self.last.saturating_sub(self.first)
-    }
-
-    // The range of the first unit, and that of the others, if there are any.
-    pub(crate) fn split_first(self) -> (UnitRange, Option<SharedRange>)
-        ensures { pairs_in self ≡ result.0 ∷ pairs_left_in result.1 }
-    {
-        let SharedRange { range, first, last } = self;
-        let rest = if first < last {
-            Some(SharedRange {
-                range,
-                first: first + 1,
-                last,
-            })
-        } else {
-            None
-        };
-        (UnitRange { range, unit: first }, rest)
     }
 }

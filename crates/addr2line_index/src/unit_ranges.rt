@@ -4,11 +4,11 @@ ghost use Rattle.std.specs.Prelude.{◌≡◌, ◌++◌, ◌∷◌, [], true, Li
 ghost use Rattle.addr2line_spec.specs.Error.TheVariants.{Memory};
 ghost use Rattle.addr2line_spec.specs.Range.{Range as RangePart};
 ghost use Rattle.addr2line_index.specs.NumberedRanges.{ranges_of_units, unit_ranges, covering_ranges, overlapping_ranges};
-ghost use Rattle.addr2line_index.specs.SharedRanges.{pairs_in, count_in_all, shared_of_run, shared_of_runs, AreShareable, LastGoesOn, with_last};
-ghost use Rattle.addr2line_index.specs.BoundedRanges.{ranges_in, shared_in, IsBounded, CountsFrom};
+ghost use Rattle.addr2line_index.specs.SharedRanges.{count_in_all, shared_of_run, shared_of_runs, AreShareable, LastGoesOn, with_last};
+ghost use Rattle.addr2line_index.specs.BoundedRanges.{shared_in, IsBounded, CountsFrom};
 
 use crate::bounded_range::BoundedRange;
-use crate::next_range::{count_ending_by, next_overlapping};
+use crate::next_range::next_overlapping;
 use crate::range_place::RangePlace;
 use crate::shared_range::SharedRange;
 use crate::unit_range::UnitRange;
@@ -198,15 +198,13 @@ impl Model for UnitRanges {
 }
 
 impl UnitRanges {
-    /// Those that cover an address, in their order. It is a bisection.
+    /// Those that cover an address, in their order. The first `next` is a bisection.
     pub fn covering(&self, probe: u64) -> CoveringRanges<'_>
         ensures { result ≡ covering_ranges probe self.now }
     {
-        let entries = self.entries.as_slice();
-        let first = count_ending_by(entries, probe);
         CoveringRanges {
-            shared: None,
-            left: &entries[first..],
+            ranges: self,
+            place: RangePlace::at(0),
             probe,
         }
     }
@@ -224,53 +222,39 @@ impl UnitRanges {
             (λ f. overlapping_ranges low high (drop from.index self.now)
             ≡ f.0 ∷ overlapping_ranges low high (drop f.1.index self.now)) }
     {
-        next_overlapping(self.entries.as_slice(), from.entry, from.index, low, high)
+        // Nothing lies below 0.
+        let last = high.checked_sub(1)?;
+        next_overlapping(self.entries.as_slice(), from.entry, from.index, low, last)
+    }
+
+    /// The first of them from a place on that covers an address, and the place after it. It costs
+    /// what `next_overlapping` does.
+    pub fn next_covering(&self, from: RangePlace, probe: u64) -> Option<(UnitRange, RangePlace)>
+        ensures { MatchOption result (covering_ranges probe (drop from.index self.now) ≡ [])
+            (λ f. covering_ranges probe (drop from.index self.now)
+            ≡ f.0 ∷ covering_ranges probe (drop f.1.index self.now)) }
+    {
+        let entries = self.entries.as_slice();
+        next_overlapping(entries, from.entry, from.index, probe, probe)
     }
 }
 
 /// The ranges that cover an address, from one of them on.
 #[derive(Debug, Drop)]
 pub struct CoveringRanges<'a> {
-    /// A range that covers it, for the units that are left.
-    shared: Option<SharedRange>,
-    left: &'a [BoundedRange],
+    ranges: &'a UnitRanges,
+    place: RangePlace,
     probe: u64,
 }
 
 impl<'a> Model for CoveringRanges<'a> {
-    ghost use Rattle.std.specs.Prelude.{List, ◌++◌};
+    ghost use Rattle.std.specs.Prelude.{List, drop};
     ghost use Rattle.addr2line_index.specs.declared.unit_range.UnitRange.{UnitRange as Numbered};
     ghost use Rattle.addr2line_index.specs.NumberedRanges.{covering_ranges};
-    ghost use Rattle.addr2line_index.specs.SharedRanges.{pairs_left_in};
-    ghost use Rattle.addr2line_index.specs.BoundedRanges.{ranges_in, IsBounded};
 
     ghost Value = { List Numbered };
 
-    ghost view = { λ c. pairs_left_in c.shared ++ covering_ranges c.probe (ranges_in c.left.now) };
-
-    ghost invariant = { λ c. IsBounded c.left.now };
-}
-
-// The first range that covers an address, and the ranges after it.
-fn first_covering(entries: &[BoundedRange], probe: u64) -> Option<(SharedRange, &[BoundedRange])>
-    requires { IsBounded entries.now }
-    ensures next { MatchOption result (covering_ranges probe (ranges_in entries.now) ≡ [])
-        (λ f. covering_ranges probe (ranges_in entries.now)
-        ≡ pairs_in f.0 ++ covering_ranges probe (ranges_in f.1.now)) }
-    ensures rest { MatchOption result (Unit {0}) (λ f. IsBounded f.1.now) }
-{
-    let mut left = entries;
-    while let [first, rest @ ..] = left {
-        if probe < first.least_begin {
-            return None;
-        }
-        let range = first.shared.range;
-        if range.begin <= probe && probe < range.end {
-            return Some((first.shared, rest));
-        }
-        left = rest;
-    }
-    None
+    ghost view = { λ c. covering_ranges c.probe (drop c.place.index c.ranges.now) };
 }
 
 impl CoveringRanges<'_> {
@@ -280,15 +264,8 @@ impl CoveringRanges<'_> {
         ensures none { MatchOption result (self.old ≡ []) (λ first. self.old ≡ first ∷ self.new) }
         ensures ended { self.old ≡ [] → self.new ≡ [] }
     {
-        if let Some(shared) = self.shared {
-            let (first, rest) = shared.split_first();
-            self.shared = rest;
-            return Some(first);
-        }
-        let (shared, left) = first_covering(self.left, self.probe)?;
-        let (first, rest) = shared.split_first();
-        self.shared = rest;
-        self.left = left;
-        Some(first)
+        let (range, place) = self.ranges.next_covering(self.place, self.probe)?;
+        self.place = place;
+        Some(range)
     }
 }

@@ -87,7 +87,11 @@ module _ (low high : ℕ) (r : UnitRange) (rest : Listing (Unit {0}) Stretch) (f
 
   none_of_lines : (x : Result Lines Error) → and_then x (λ lines. checked tt) ≡ checked tt → WalkBegins from x None
       → with_stretches low high r.range x rest ≡ rest
-  none_of_lines (Ok l) sound begins = absurd begins
+  none_of_lines (Ok l) sound begins =
+      let end = min high r.range.end in
+      let none : lines_between l (max low r.range.begin) end ≡ [] =
+      subst (λ (n : ℕ). lines_between l n end ≡ []) is_low (begins end) in
+      ap (λ (xs : List Stretch). prepend xs rest) none
   none_of_lines (Err e) sound begins = absurd cc
 
   none_of_unit : (o : Option ContextUnit) → check_of o ≡ checked tt → BeginsInUnit from o None
@@ -95,11 +99,11 @@ module _ (low high : ℕ) (r : UnitRange) (rest : Listing (Unit {0}) Stretch) (f
   none_of_unit None sound begins = refl
   none_of_unit (Some u) sound begins = none_of_lines u.lines sound begins
 
-  -- a unit that isn't there has none
-  pub begins_without_unit : (us : List ContextUnit) → check_at us r.unit ≡ checked tt
+  -- a unit that isn't there has none, nor has one without rows for the range
+  pub begins_without_rows : (us : List ContextUnit) → check_at us r.unit ≡ checked tt
       → BeginsInUnit from (slice_get us r.unit) None
       → with_unit_stretches low high r.range (slice_get (map unit_places us) r.unit) rest ≡ rest
-  begins_without_unit us sound begins =
+  begins_without_rows us sound begins =
       subst (λ o. with_unit_stretches low high r.range o rest ≡ rest) (sym (slice_get-map unit_places us r.unit))
       (none_of_unit (slice_get us r.unit) sound begins)
 

@@ -1,16 +1,12 @@
 -- A lookup of an address goes on from an index: the units before it know nothing, whatever loads are answered, and keep
 -- their functions.
-use Rattle.std.proofs.Common.{◌≡◌, inl, inr, ℕ, zero, suc, ◌+◌, ◌<◌, ◌≤◌, ◌^◌, Bool, true, false, cond, ◌&&◌, nat_lt, nat_le, List, [], ◌∷◌, ◌++◌, All, drop, set, slice_get, Option, Some, None, option_map, option_and_then, Result, refl, sym, ap, ◌∙◌, subst, arith, append_assoc}
-use Rattle.std.proofs.lemmas.Bool.Decides.{nat_tests}
-use Rattle.std.proofs.lemmas.List.Elements.{All-nil, All-head, All-tail, All-push, All-weaker, filter_agree, filter_passes}
+use Rattle.std.proofs.Common.{◌≡◌, inl, inr, ℕ, zero, suc, ◌+◌, ◌≤◌, Bool, false, cond, List, [], ◌∷◌, ◌++◌, All, drop, set, slice_get, Option, Some, None, option_map, option_and_then, Result, refl, sym, ap, ◌∙◌, subst, arith, append_assoc}
+use Rattle.std.proofs.lemmas.List.Elements.{All-nil, All-head, All-tail, All-push, All-weaker}
 use Rattle.std.proofs.lemmas.List.Sums.{sum_by-append}
 use Rattle.addr2line_unit.specs.Error.{Error}
 use Rattle.addr2line_unit.specs.DwarfFiles.{DwarfFile}
-use Rattle.addr2line_unit.specs.Choice.{holds}
-use Rattle.addr2line_unit.specs.Pairs.{overlaps}
-use Rattle.addr2line_unit.specs.Range.{Range}
 use Rattle.addr2line_unit.specs.UnitRange.{UnitRange}
-use Rattle.addr2line_unit.specs.NumberedRanges.{covering_ranges, overlapping_ranges}
+use Rattle.addr2line_unit.specs.NumberedRanges.{covering_ranges}
 use Rattle.addr2line_unit.specs.FirstAnswers.{SplitLoad, PendingLoad, Lookup, output, answer_of}
 use Rattle.addr2line_unit.specs.ResolvedUnits.{AnsweredUnit, ResolvedUnit, pending_load}
 use Rattle.addr2line_lookups.specs.KeptUnits.{KeepsFunctionsAt, KeepMoreFunctions}
@@ -22,60 +18,6 @@ use Rattle.addr2line_lookups.specs.PassedUnits.{ComesNext, Passed, KeepsFunction
 use Rattle.addr2line_lookups.proofs.AnsweredLoads.{set_same, decided_stays}
 use Rattle.addr2line_lookups.proofs.FirstLoads.{loads_further}
 use Rattle.addr2line_lookups.proofs.SettledUnits.{first_passes}
-
--- ---- the ranges over an address
-
-and_swap : (x y : Bool) → (x && y) ≡ (y && x)
-and_swap true true = refl
-and_swap true false = refl
-and_swap false true = refl
-and_swap false false = refl
-
-below_next : (a begin : ℕ) → nat_lt begin (a + 1) ≡ nat_le begin a
-below_next a begin = grind (arith, nat_tests)
-
--- a range is over an address if it overlaps what lies between it and the next
-holds_overlaps : (a : ℕ) (r : Range) → overlaps a (a + 1) r ≡ holds a r
-holds_overlaps a r =
-    and_swap (nat_lt a r.end) (nat_lt r.begin (a + 1)) ∙ ap (λ b. b && nat_lt a r.end) (below_next a r.begin)
-
-pub covering_overlaps : (a : ℕ) (rs : List UnitRange) → overlapping_ranges a (a + 1) rs ≡ covering_ranges a rs
-covering_overlaps a rs =
-    filter_agree (λ (r : UnitRange). overlaps a (a + 1) r.range) (λ (r : UnitRange). holds a r.range)
-    (λ r. holds_overlaps a r.range) rs
-
--- the next of those that overlap is the next of those over it
-pub next_comes : (a above from : ℕ) (rs : List UnitRange) (r : UnitRange) (next : ℕ) → above ≡ a + 1
-    → overlapping_ranges a above (drop from rs) ≡ r ∷ overlapping_ranges a above (drop next rs)
-    → ComesNext a from rs r.unit next
-next_comes a above from rs r next is h =
-    let same : (qs : List UnitRange) → overlapping_ranges a above qs ≡ covering_ranges a qs =
-    λ qs. ap (λ n. overlapping_ranges a n qs) is ∙ covering_overlaps a qs in
-    (r.range, sym (same (drop from rs)) ∙ h ∙ ap (λ qs. r ∷ qs) (same (drop next rs)))
-
--- where none is over the address, none is from an index on
-none_after : (a : ℕ) (r : UnitRange) (rs : List UnitRange) → covering_ranges a (r ∷ rs) ≡ []
-    → covering_ranges a rs ≡ []
-none_after a r rs =
-    elim (holds a r.range) as (λ b.
-    cond b (r ∷ covering_ranges a rs) (covering_ranges a rs) ≡ [] → covering_ranges a rs ≡ []) [
-      | true ↦ λ h. absurd cc
-      | false ↦ λ h. h
-    ]
-
-pub none_from : (a from : ℕ) (rs : List UnitRange) → covering_ranges a rs ≡ [] → covering_ranges a (drop from rs) ≡ []
-none_from a zero rs h = h
-none_from a (suc from) [] h = refl
-none_from a (suc from) (r ∷ rs) h = none_from a from rs (none_after a r rs h)
-
--- no range that ends at or below the last address is over it
-pub last_is_free : (a : ℕ) (r : UnitRange) (rs rest : List UnitRange) → a + 1 ≡ 2 ^ 64 → r.range.end < 2 ^ 64
-    → covering_ranges a rs ≡ r ∷ rest → ⊥
-last_is_free a r rs rest last end h =
-    let over : holds a r.range ≡ true =
-    All-head (λ (q : UnitRange). holds a q.range ≡ true) r rest
-    (subst (All (λ (q : UnitRange). holds a q.range ≡ true)) h (filter_passes (λ (q : UnitRange). holds a q.range) rs))
-    in grind (arith, nat_tests, over, last, end)
 
 -- ---- before an index
 

@@ -158,7 +158,14 @@ first_left units ranges s old new h =
 abbrev pub ok_stretch : Option UnitStretch → Result (Option UnitStretch) Error
 ok_stretch o = Ok o
 
--- where the walk's range has no more, nothing is left but what comes after it
+-- where the walk's range has no more, the walk leaves it
+pub in_no_range : (units : List ContextUnit) (old new : RangeWalk) (o : Option UnitStretch) → o ≡ None
+    → NextOfRows units (Ok o) old new → new.rows ≡ None
+in_no_range units old new o none h =
+    let left : NextOfRows units (Ok None) old new = subst (λ x. NextOfRows units (Ok x) old new) none h in
+    ap (λ (w : RangeWalk). w.rows) left.0
+
+-- and nothing is left but what comes after it
 pub leaves_range : (units : List ContextUnit) (ranges : List UnitRange) (old new : RangeWalk) (o : Option UnitStretch)
     → o ≡ None → NextOfRows units (Ok o) old new
     → (walk_left (map unit_places units) ranges new ≡ walk_left (map unit_places units) ranges old)

@@ -208,7 +208,8 @@ module _ (us : List ResolvedUnit) (n : ℕ) where
           (unit_probes_left (cursor_after f) (slice_get (map plain_unit us) n)) us (set us n new)
       step_set c f steps =
           subst (λ (o : Option ContextUnit).
-          WalksLines (unit_probes_left (Some c) o + found_looks f) (unit_probes_left (cursor_after f) o) us (set us n new))
+          WalksLines (unit_probes_left (Some c) o + found_looks f) (unit_probes_left (cursor_after f) o) us
+          (set us n new))
           (sym plain_here)
           (walks_set (probes_left c u.value.unit.lines + found_looks f)
           (unit_probes_left (cursor_after f) (Some u.value.unit))
@@ -253,7 +254,8 @@ module _ (ranges : List UnitRange) (us vs ws : List ResolvedUnit) (same : map va
       let later = same_later units ranges old new moved in
       let here : WalksLines (rows_looks units old.rows + step_looks result) (rows_looks units new.rows) vs ws =
       subst (λ (xs : List ContextUnit).
-      WalksLines (rows_looks xs old.rows + step_looks result) (rows_looks xs new.rows) vs ws) (same_plain vs us same) h in
+      WalksLines (rows_looks xs old.rows + step_looks result) (rows_looks xs new.rows) vs ws)
+      (same_plain vs us same) h in
       walks_beside (looks_from units old.low old.high ranges old.next.index)
       (rows_looks units old.rows + step_looks result) (rows_looks units new.rows)
       (walk_looks units ranges old + step_looks result) (walk_looks units ranges new) vs ws (omega arith)

@@ -26,7 +26,7 @@ use Rattle.addr2line_lookups.specs.declared.range_walk.UnitStretch.{UnitStretch}
 -- ---- one unit
 
 -- a walk over the lines of a unit from a low end on begins at a cursor; at none where there is no
--- unit, or its lines are refused
+-- unit, or it has no rows for it, or its lines are refused
 abbrev pub BeginsInUnit : ℕ → Option ContextUnit → Option LineCursor → Type 0
 BeginsInUnit low None c = c ≡ None
 BeginsInUnit low (Some u) c = WalkBegins low u.lines c

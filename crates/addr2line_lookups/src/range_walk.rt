@@ -1,7 +1,7 @@
 //! Walks over the stretches between two ends. The lines of a unit are read where a walk comes to
 //! it, and kept.
 
-ghost use Rattle.std.specs.Prelude.{◌≡◌, ◌≢◌, ◌+◌, ℕ, List, Some, Ok, Err, map, slice_get, option_map, MatchOption, IfOk};
+ghost use Rattle.std.specs.Prelude.{◌≡◌, ◌≢◌, ◌+◌, ℕ, List, None, Some, Ok, Err, map, slice_get, option_map, MatchOption, IfOk};
 ghost use Rattle.addr2line_unit.specs.Error.TheVariants.{Memory};
 ghost use Rattle.addr2line_unit.specs.Contexts.{ContextUnit, ranges_of, lines_of};
 ghost use Rattle.addr2line_unit.specs.PlaceLookups.{stretches_between};
@@ -66,7 +66,7 @@ impl RangeWalk {
 }
 
 // Where a walk over the rows of the unit of a number from a low end on begins; at none where there
-// is no such unit, or its lines, which are kept, are refused.
+// is no such unit, or it has no rows for it, or its lines, which are kept, are refused.
 fn cursor_at<R: Reader>(units: &mut Vec<ResUnit<R>>, number: usize, low: u64) -> Option<LineCursor>
     requires { KeepsAt units.old.items number }
     ensures change { let unit = slice_get (map plain_unit units.old.items) number in
@@ -106,7 +106,7 @@ fn next_at<R: Reader>(
     unit.next_between(cursor, low, high)
 }
 
-// The rows of the unit of a range, if there is one. Its lines are kept, and aren't refused.
+// The rows of the unit of a range, if there are any. Its lines are kept, and aren't refused.
 fn rows_in<R: Reader>(units: &mut Vec<ResUnit<R>>, range: UnitRange, low: u64) -> Option<RangeRows>
     requires kept { KeepsAt units.old.items range.unit }
     requires lines { check_at (map plain_unit units.old.items) range.unit ≡ Ok tt }
@@ -224,6 +224,18 @@ fn next_of_rows<R: Reader>(
     }
 }
 
+// A walk that is in no range enters the next one, if that has rows.
+#[inline(always)]
+fn enter(walk: &mut RangeWalk, rows: Option<RangeRows>, next: RangePlace)
+    requires { walk.old.rows ≡ None }
+    ensures { walk.new ≡ record walk.old { rows = rows; next = next } }
+{
+    if rows.is_some() {
+        walk.rows = rows;
+    }
+    walk.next = next;
+}
+
 // The next stretch of a walk: that of the range that it is in, or else of the first range after it
 // that has one. The lines of the units up to there are read, unless they are kept; else it takes no
 // memory. A refusal of them leaves the walk before that unit. It takes three looks at what is kept
@@ -259,7 +271,7 @@ pub(crate) fn next_stretch<R: Reader>(
         let Some((range, next)) = ranges.next_overlapping(walk.next, walk.low, walk.high) else {
             return Ok(None);
         };
-        walk.rows = first_rows(alloc, units, range, walk.low)?;
-        walk.next = next;
+        let rows = first_rows(alloc, units, range, walk.low)?;
+        enter(walk, rows, next);
     }
 }

@@ -1,21 +1,23 @@
--- Attributes that are read and dropped are ones of which no name is made.
-use Rattle.std.proofs.Common.{◌≡◌, ℕ, ◌-◌, ◌<◌, false, List, [], ◌∷◌, ◌++◌, length, get_or, take, drop, map, Result, Ok, Err, refl, sym, ap, subst, ◌∙◌, arith, length-drop}
+-- Attributes that are skipped, or read and dropped, are ones of which no name is made.
+use Rattle.std.proofs.Common.{◌≡◌, ℕ, ◌-◌, ◌<◌, true, false, List, [], ◌∷◌, ◌++◌, length, get_or, take, drop, map, Result, Ok, Err, sym, ap, subst, ◌∙◌, refl, arith, length-drop}
+use Rattle.std.specs.Prelude.{All}
 use Rattle.std.proofs.lemmas.List.{append_assoc, append-nil, at_drop_more, take_all}
-use Rattle.std.proofs.lemmas.List.Elements.{All-nil, All-push}
+use Rattle.std.proofs.lemmas.List.Elements.{All-nil, All-cons, All-head, All-tail, All-append, All-push}
 use Rattle.gimli_core_abbrev.specs.Error.{Error}
 use Rattle.gimli_core_abbrev.specs.View.{View}
-use Rattle.gimli_core_abbrev.specs.Parsers.{give}
+use Rattle.gimli_core_abbrev.specs.Parsers.{proceed, give}
 use Rattle.gimli_core_abbrev.specs.Encoding.{Encoding}
-use Rattle.gimli_core_abbrev.proofs.StepParts.{begins, value_is}
+use Rattle.gimli_core_abbrev.proofs.StepParts.{begins, value_is, state_is}
 use Rattle.gimli_dwarf.specs.Declarations.{Attribute}
 use Rattle.gimli_dwarf.specs.Repetition.{prepend}
 use Rattle.gimli_dwarf.specs.EntryWalks as entries
-use Rattle.gimli_dwarf.specs.EntryWalks.{Walk, read_in_walk}
+use Rattle.gimli_dwarf.specs.EntryWalks.{Walk, read_in_walk, walk_with_rest}
+use Rattle.gimli_dwarf.specs.NamedAttributes.{is_name_of, PassesOthers}
 use Rattle.gimli_dwarf.specs.AttributeValues.{RawAttribute}
 use Rattle.gimli_units_forms.specs.AttributeReading as forms
 use Rattle.gimli_units_forms.specs.AttributeReading.{final_form, raw_attribute, attribute_in_form, value_in_form}
 use Rattle.addr2line_names.specs.EntryNamings.{attributes_from}
-use Rattle.addr2line_names.specs.PassedAttributes.{is_naming, IsNoName, Passes, PassesToFault}
+use Rattle.addr2line_names.specs.PassedAttributes.{is_naming, BeginsWithName, IsNoName, Passes, PassesToFault}
 use Rattle.addr2line_names.proofs.NamingSteps.{attributes_first, attributes_refused}
 
 -- ---- the name of an attribute
@@ -47,12 +49,76 @@ unfolding entries.value
 value_named limit s w after a h =
     named_in_walk limit s w after a (forms.attribute limit w.encoding s w.rest) refl h
 
+-- ---- several that are skipped
+
+-- the attributes of two lists of declarations
+from_append : (limit : ℕ) (w : Walk) (first left : List Attribute) (v u : View) (passed : List RawAttribute)
+    → forms.attributes limit w.encoding first v ≡ Ok (passed, u)
+    → attributes_from limit (first ++ left) (walk_with_rest v w)
+    ≡ prepend passed (attributes_from limit left (walk_with_rest u w))
+unfolding forms.attributes entries.value
+from_append limit w [] left v u passed h =
+    ap (λ (xs : List RawAttribute). prepend xs (attributes_from limit left (walk_with_rest v w)))
+    (value_is [] passed v u h)
+    ∙ ap (λ (t : View). prepend passed (attributes_from limit left (walk_with_rest t w))) (state_is [] passed v u h)
+from_append limit w (s ∷ ss) left v u passed h =
+    let b = begins (forms.attribute limit w.encoding s v)
+    (λ a t. proceed (forms.attributes limit w.encoding ss t) (λ more. give (a ∷ more))) passed u h in
+    let c = begins (forms.attributes limit w.encoding ss b.1) (λ more. give (b.0 ∷ more)) passed u b.3 in
+    attributes_first limit s (ss ++ left) (walk_with_rest v w) (walk_with_rest b.1 w) b.0
+    (ap (read_in_walk (walk_with_rest v w)) b.2)
+    ∙ ap (prepend (b.0 ∷ [])) (from_append limit w ss left b.1 c.1 c.0 c.2)
+    ∙ ap (λ (xs : List RawAttribute). prepend xs (attributes_from limit left (walk_with_rest c.1 w)))
+    (value_is (b.0 ∷ c.0) passed c.1 u c.3)
+    ∙ ap (λ (t : View). prepend passed (attributes_from limit left (walk_with_rest t w)))
+    (state_is (b.0 ∷ c.0) passed c.1 u c.3)
+
+are_nameless : (names : _) (xs : List RawAttribute) → ((n : ℕ) → is_name_of names n ≡ is_naming n)
+    → All (λ a. is_name_of names a.name ≡ false) xs → All IsNoName xs
+are_nameless names [] same others = All-nil IsNoName
+are_nameless names (a ∷ xs) same others =
+    let P = λ (b : RawAttribute). is_name_of names b.name ≡ false in
+    All-cons IsNoName a xs (sym (same a.name) ∙ All-head P a xs others)
+    (are_nameless names xs same (All-tail P a xs others))
+
+-- attributes with other names than those that names are made of
+pub passes_others : (limit : ℕ) (names : _) (all left : List Attribute) (old new : Walk)
+    → ((n : ℕ) → is_name_of names n ≡ is_naming n) → PassesOthers names (entries.values limit) all old left new
+    → Passes limit all old left new
+unfolding entries.values
+passes_others limit names all left old new same p = record {
+  passed = p.passed;
+  nameless = are_nameless names p.passed same p.others;
+  same = ap (λ (ss : List Attribute). attributes_from limit ss old) (sym p.divided)
+      ∙ by_read (forms.attributes limit old.encoding p.first old.rest) refl p.reads;
+}
+  where
+    by_read : (r : Result (List RawAttribute × View) Error)
+        → forms.attributes limit old.encoding p.first old.rest ≡ r → read_in_walk old r ≡ Ok (p.passed, new)
+        → attributes_from limit (p.first ++ left) old ≡ prepend p.passed (attributes_from limit left new)
+    by_read (Ok r) reads h =
+        from_append limit old p.first left old.rest r.1 r.0 reads
+        ∙ ap (λ (xs : List RawAttribute). prepend xs (attributes_from limit left (walk_with_rest r.1 old)))
+        (value_is r.0 p.passed (walk_with_rest r.1 old) new h)
+        ∙ ap (λ (w : Walk). prepend p.passed (attributes_from limit left w))
+        (state_is r.0 p.passed (walk_with_rest r.1 old) new h)
+    by_read (Err e) reads h = absurd cc
+
 -- ---- one more that is passed
 
 module _ (limit : ℕ) (all : List Attribute) (old : Walk) where
-  -- before the first
-  pub passes_none : Passes limit all old all old
-  passes_none = record { passed = []; nameless = All-nil IsNoName; same = refl }
+  -- after some, others are passed too
+  pub passes_on : (ss left : List Attribute) (w new : Walk) → Passes limit all old ss w → Passes limit ss w left new
+      → Passes limit all old left new
+  passes_on ss left w new p q =
+      let rest = attributes_from limit left new in
+      record {
+        passed = p.passed ++ q.passed;
+        nameless = All-append IsNoName p.passed q.passed p.nameless q.nameless;
+        same = p.same ∙ ap (prepend p.passed) q.same
+            ∙ ap (λ (items : List RawAttribute). record { items = items; ending = rest.ending })
+            (sym (append_assoc p.passed q.passed rest.items));
+      }
 
   passes_more : (s : Attribute) (ss : List Attribute) (w after : Walk) (a : RawAttribute)
       → Passes limit all old (s ∷ ss) w → entries.value limit s w ≡ Ok (a, after) → is_naming s.name ≡ false
@@ -101,3 +167,15 @@ module _ (limit : ℕ) (all : List Attribute) (old : Walk) where
     passes_left-fault xs d w e some p refuses =
         passes_to_fault (view (get_or xs 0 d)) (map view (drop 1 xs)) w e
         (subst (λ (ss : List Attribute). Passes limit all old ss w) (first_is xs d some) p) refuses
+
+-- ---- what is left
+
+module _ {X : Type 0} (view : X → Attribute) where
+  pub begins_with_name : (xs : List X) (d : X) → 0 < length xs → is_naming (view (get_or xs 0 d)).name ≡ true
+      → BeginsWithName (map view xs)
+  begins_with_name [] d some named = absurd (omega arith)
+  begins_with_name (x ∷ xs) d some named = named
+
+  pub begins_with_none : (xs : List X) → length xs < 1 → BeginsWithName (map view xs)
+  begins_with_none [] none = tt
+  begins_with_none (x ∷ xs) none = absurd (omega arith)

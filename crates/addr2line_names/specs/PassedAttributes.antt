@@ -1,5 +1,5 @@
 -- Attributes of which no name is made.
-use Rattle.std.specs.Prelude.{◌≡◌, ◌≢◌, ℕ, ◌||◌, Bool, false, List, All, Result, Ok, Err}
+use Rattle.std.specs.Prelude.{◌≡◌, ◌≢◌, ℕ, ◌||◌, Bool, true, false, List, [], ◌∷◌, All, Result, Ok, Err}
 use Rattle.gimli_dwarf.specs.Error.{Error}
 use Rattle.gimli_dwarf.specs.Error.TheVariants.{Memory}
 use Rattle.gimli_dwarf.specs.Declarations.{Attribute}
@@ -16,6 +16,11 @@ is_naming n = is_name n || (is_reference n || is_linkage_name n)
 -- no name is made of an attribute
 abbrev pub IsNoName : RawAttribute → Type 0
 IsNoName a = is_naming a.name ≡ false
+
+-- no attributes, or first one that a name may be made of
+abbrev pub BeginsWithName : List Attribute → Type 0
+BeginsWithName [] = Unit {0}
+BeginsWithName (s ∷ ss) = is_naming s.name ≡ true
 
 -- The attributes of some declarations are those of the others, after ones of which no name is made.
 pub record Passes (limit : ℕ) (all : List Attribute) (old : Walk) (others : List Attribute)

@@ -1,6 +1,7 @@
 //! The attributes that names are made of (DWARF 5, 2.15, 2.22 and 7.5.4).
 
-ghost use Rattle.std.specs.Prelude.{◌≡◌};
+ghost use Rattle.std.specs.Prelude.{◌≡◌, ℕ};
+ghost use Rattle.gimli_dwarf.specs.NamedAttributes.{is_name_of};
 ghost use Rattle.gimli_dwarf.specs.UnitFacts.{is_name};
 ghost use Rattle.addr2line_names.specs.EntryNamings.{is_linkage_name, is_reference};
 ghost use Rattle.addr2line_names.specs.PassedAttributes.{is_naming};
@@ -40,4 +41,18 @@ pub fn is_naming(name: DwAt) -> bool
     ensures { result ≡ is_naming name.0 }
 {
     is_name(name) || is_reference(name) || is_linkage_name(name)
+}
+
+/// The names of these attributes.
+#[inline(always)]
+pub(crate) fn naming_names() -> [DwAt; 5]
+    ensures { (name : ℕ) → is_name_of result name ≡ is_naming name }
+{
+    [
+        DW_AT_name,
+        DW_AT_abstract_origin,
+        DW_AT_specification,
+        DW_AT_linkage_name,
+        DW_AT_MIPS_linkage_name,
+    ]
 }

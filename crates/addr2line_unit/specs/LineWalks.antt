@@ -1,5 +1,5 @@
 -- Walks over the lines of a unit between two ends, and how many looks at entries they take.
-use Rattle.std.specs.Prelude.{◌≡◌, ℕ, [], ◌∷◌, length, Option, Some, None, Result, Ok, Err}
+use Rattle.std.specs.Prelude.{◌≡◌, ℕ, [], ◌∷◌, length, Option, Some, None, MatchOption, Result, Ok, Err}
 use Rattle.addr2line_functions.specs.Error.{Error}
 use Rattle.addr2line_functions.specs.Lines.{Lines, lines_between}
 use Rattle.addr2line_functions.specs.LineCursor.{LineCursor}
@@ -17,10 +17,12 @@ plain_lines (Err e) = Err e
 
 -- ---- rows
 
--- a walk from a low end on begins at a cursor; at none where the lines are refused
+-- a walk from a low end on begins at a cursor; at none where there are no rows for it, or the lines
+-- are refused
 abbrev pub WalkBegins : ℕ → Result Lines Error → Option LineCursor → Type 0
-WalkBegins low (Ok l) None = ⊥
-WalkBegins low (Ok l) (Some c) = (high : ℕ) → lines_left l low high c ≡ lines_between l low high
+WalkBegins low (Ok l) c =
+    MatchOption c ((high : ℕ) → lines_between l low high ≡ [])
+    (λ k. (high : ℕ) → lines_left l low high k ≡ lines_between l low high)
 WalkBegins low (Err e) c = c ≡ None
 
 -- the next row at a cursor, with the cursor after it, if one is left between two ends; none where

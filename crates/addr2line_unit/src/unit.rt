@@ -1,6 +1,6 @@
 //! A unit of a context, and what was read of it.
 
-ghost use Rattle.std.specs.Prelude.{◌≡◌, ◌≢◌, ◌<◌, true, length, Some, None, Ok, Err, IfSome, MatchOption, IfOk, OnOk, OnErr, IfErr, option_map, option_and_then, is_some};
+ghost use Rattle.std.specs.Prelude.{◌≡◌, ◌≢◌, ◌<◌, false, true, length, Some, None, Ok, Err, IfSome, MatchOption, IfOk, OnOk, OnErr, IfErr, option_map, option_and_then, is_some};
 ghost use Rattle.addr2line_functions.specs.Calls.{Returns, ReturnsAs, ReturnsAsOrNoMemory, ReturnsOrNoMemory};
 ghost use Rattle.addr2line_functions.specs.Error.TheVariants.{Memory};
 ghost use Rattle.addr2line_functions.specs.Results.{and_then, refusal_of};
@@ -120,8 +120,8 @@ fn row_in_kept(
     }
 }
 
-// Where a walk over the rows of lines from a low end on begins; at none where they are refused, or
-// aren't kept.
+// Where a walk over the rows of lines from a low end on begins; at none where there are no rows for
+// it, or the lines are refused, or aren't kept.
 fn cursor_in_kept(lines: &Kept<UnitLines>, low: u64, probes: &mut Probes) -> Option<LineCursor>
     requires counter { IfSome lines.now (λ r. IfOk r (λ l. probes.old.name ≡ l.counter)) }
     ensures rows { IfSome lines.now (λ r. WalkBegins low (plain_lines r) result) }
@@ -129,7 +129,7 @@ fn cursor_in_kept(lines: &Kept<UnitLines>, low: u64, probes: &mut Probes) -> Opt
         (λ r. AtMostProbes (cursor_probes (plain_lines r)) probes.old probes.new) }
 {
     match lines.result() {
-        Some(Ok(lines)) => Some(lines.index().cursor_from(low, probes)),
+        Some(Ok(lines)) => lines.index().cursor_from(low, probes),
         Some(Err(_)) | None => None,
     }
 }
@@ -321,8 +321,20 @@ impl<R: Reader> ResUnit<R> {
         self.main.runs()
     }
 
+    // Reads the lines, which aren't kept.
+    fn read_missing_lines(&mut self, alloc: Global) -> Result<(), Error>
+        requires { self.old.keeps_lines ≡ false }
+        ensures unit { self.new ≡ record self.old { keeps_lines = self.new.keeps_lines } }
+        ensures kept { OnOk result (self.new.keeps_lines ≡ true) }
+        ensures refusal { IfErr result (λ e. e ≡ Memory) }
+    {
+        let lines = self.main.read_lines(alloc, &self.probes)?;
+        self.lines.keep(lines)
+    }
+
     /// Reads the lines, unless they are kept. A refusal is kept too: the only error is out of
     /// memory, after which they are read again.
+    #[inline(always)]
     pub fn read_lines(&mut self, alloc: Global) -> Result<(), Error>
         ensures unit { self.new ≡ record self.old { keeps_lines = self.new.keeps_lines } }
         ensures kept { OnOk result (self.new.keeps_lines ≡ true) }
@@ -332,8 +344,7 @@ impl<R: Reader> ResUnit<R> {
         if self.lines.is_read() {
             return Ok(());
         }
-        let lines = self.main.read_lines(alloc, &self.probes)?;
-        self.lines.keep(lines)
+        self.read_missing_lines(alloc)
     }
 
     /// The lines as lookups search them, or the refusal of them, if they are kept.
@@ -363,7 +374,8 @@ impl<R: Reader> ResUnit<R> {
     }
 
     /// Where a walk over the rows of the lines that are kept begins, from a low end on; at none
-    /// where they are refused. It is one search among the sequences.
+    /// where there are no rows for it, or the lines are refused. It is one search among the
+    /// sequences.
     pub fn cursor_from(&mut self, low: u64) -> Option<LineCursor>
         ensures unit { self.new ≡ with_probes self.old self.new.probes }
         ensures rows { KeepsLines self.old

@@ -5,7 +5,7 @@ use crate::attributes;
 use crate::case::Case;
 use crate::sections::{Sections, table};
 use gimli_core::{
-    Abbreviations, DW_AT_name, DebugAbbrev, DebugArangesOffset, Error, Reader, ReaderOffset,
+    Abbreviations, DW_AT_name, DebugAbbrev, DebugArangesOffset, DwAt, Error, Reader, ReaderOffset,
 };
 use gimli_units::{
     ArangeEntry, ArangeEntryIter, ArangeHeader, Attribute, DebugAranges, DebugInfo,
@@ -373,17 +373,23 @@ fn depth_after<R: Reader>(
     }
 }
 
-// Of the attributes of the entry at the offset, those of the name and `DW_AT_name`.
+// Of the attributes of the entry at the offset, those of the name and `DW_AT_name`, and where a
+// walk stops that skips the others.
 fn attributes_of_name<R: Reader>(
     alloc: Global,
     case: &Case,
     unit: Result<(UnitHeader<R>, Abbreviations), Error>,
     out: &mut Answer,
 ) {
+    let names = [case.name, DW_AT_name];
     match (unit, case.offset()) {
         (Ok((unit, table)), Ok(offset)) => {
             match entries_raw(&unit, &table, Some(UnitOffset(offset))) {
-                Ok(mut entries) => read_named_attributes(alloc, case, &mut entries, out),
+                Ok(mut entries) => read_named_attributes(alloc, &names, &mut entries, out),
+                Err(error) => out.refuse(error),
+            }
+            match entries_raw(&unit, &table, Some(UnitOffset(offset))) {
+                Ok(mut entries) => skip_other_attributes(&names, &mut entries, out),
                 Err(error) => out.refuse(error),
             }
         }
@@ -394,21 +400,44 @@ fn attributes_of_name<R: Reader>(
 
 fn read_named_attributes<R: Reader>(
     alloc: Global,
-    case: &Case,
+    names: &[DwAt],
     entries: &mut EntriesRaw<'_, R>,
     out: &mut Answer,
 ) {
-    let names = [case.name, DW_AT_name];
     let mut found = Vec::new(alloc);
     let outcome = match entries.read_abbreviation() {
         Ok(Some(declared)) => {
-            entries.read_named_attributes(declared.attributes(), &names, &mut found)
+            entries.read_named_attributes(declared.attributes(), names, &mut found)
         }
         Ok(None) => Ok(()),
         Err(error) => Err(error),
     };
     each_attribute(&found, out);
     depth_after(outcome, entries, out);
+}
+
+// The offset of each attribute that isn't skipped, up to one that can't be read.
+fn skip_other_attributes<R: Reader>(
+    names: &[DwAt],
+    entries: &mut EntriesRaw<'_, R>,
+    out: &mut Answer,
+) {
+    out.text(", stops at");
+    let Ok(Some(declared)) = entries.read_abbreviation() else {
+        return;
+    };
+    let mut left = entries.skip_other_attributes(declared.attributes(), names);
+    for _ in 0..20 {
+        let [specification, rest @ ..] = left else {
+            return;
+        };
+        out.text(" ");
+        out.value(&entries.next_offset().0.into_u64());
+        if entries.read_attribute(*specification).is_err() {
+            return;
+        }
+        left = entries.skip_other_attributes(rest, names);
+    }
 }
 
 // The first attribute, and what its form makes of the bytes after it.

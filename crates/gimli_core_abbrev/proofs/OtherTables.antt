@@ -1,5 +1,5 @@
 -- Tables that are checked one after the other: what comes of each.
-use Rattle.std.proofs.Common.{◌≡◌, ◌∙◌, refl, ap, sym, subst, ℕ, ◌≤◌, Bool, true, false, cond, ◌||◌, eqb, leb, List, [], ◌∷◌, ◌++◌, map, Option, Some, None, is_some, option_map, unwrap_or, Result, arith}
+use Rattle.std.proofs.Common.{◌≡◌, ◌∙◌, refl, ap, sym, subst, ℕ, ◌+◌, ◌<◌, ◌≤◌, Bool, true, false, cond, ◌||◌, eqb, leb, List, [], ◌∷◌, ◌++◌, length, map, take, get_or, Option, Some, None, is_some, option_map, unwrap_or, Result, arith}
 use Rattle.std.specs.Ordering.{nat_cmp}
 use Rattle.std.specs.BTreeMap.{is_at}
 use Rattle.std.specs.Map.{lookup}
@@ -14,7 +14,7 @@ use Rattle.gimli_core_abbrev.specs.Declarations.{Declaration}
 use Rattle.gimli_core_abbrev.specs.TableCache.{AreTablesOf, table_view, cached_view}
 use Rattle.gimli_core_abbrev.specs.TableParsing.{table_at}
 use Rattle.gimli_core_abbrev.specs.CheckedTables.{IsDeclarationAt, AreDeclarationsOf, HasRepeated, HasAll, AreOwn, ChecksOthers}
-use Rattle.gimli_core_abbrev.proofs.RepeatedOffsets.{among, times_among, among_times, among-push}
+use Rattle.gimli_core_abbrev.proofs.RepeatedOffsets.{among, times_among, among_times, among-push, places_more}
 use Rattle.gimli_core_abbrev.proofs.DeclarationPlaces.{place_test}
 use Rattle.gimli_core_abbrev.proofs.TableCollection.{is_some-map}
 use Rattle.gimli_core_abbrev.proofs.CacheMaps.{get_cached}
@@ -58,6 +58,22 @@ first_more true f true m x o h = refl
 first_more true f false true x o h = refl
 first_more true f false false x o h = refl
 first_more false f b m x o h = or_push (is_some o || f) b m h
+
+-- the same where the offset of the entry is known by another number
+pub entry_at : {X : Type 0} (k c : ℕ) (x : X) (old new : ℕ → Option X) → k ≡ c
+    → ((offset : ℕ) → new offset ≡ cond (is_at (nat_cmp k) offset) (Some x) (old offset))
+    → (offset : ℕ) → new offset ≡ cond (is_at (nat_cmp c) offset) (Some x) (old offset)
+entry_at k c x old new same is offset =
+    is offset ∙ ap (λ (n : ℕ). cond (is_at (nat_cmp n) offset) (Some x) (old offset)) same
+
+-- ---- of one place more
+
+pub others_more : {X : Type 0} (place : X → ℕ) (xs : List X) (i : ℕ) (x : X) (section : View)
+    (before after : ℕ → Option CachedTable) (kept : ℕ → Option Declaration) → x ≡ get_or xs i x → i < length xs
+    → ChecksOthers section (map place (take i xs) ++ place x ∷ []) before after kept
+    → ChecksOthers section (map place (take (i + 1) xs)) before after kept
+others_more place xs i x section before after kept item inside =
+    subst (λ (ps : List ℕ). ChecksOthers section ps before after kept) (sym (places_more place xs i x item inside))
 
 -- ---- an offset whose table is there
 
@@ -110,7 +126,8 @@ others_checked section places before after old new c d is first was = record {
     by_test offset x false e h = was.are_declarations offset x h
     by_test offset x true e h =
         let same : d ≡ x = cc in
-        subst (λ (o : ℕ). IsDeclarationAt section o x) (eqb-true c offset e) (subst (IsDeclarationAt section c) same first)
+        subst (λ (o : ℕ). IsDeclarationAt section o x) (eqb-true c offset e)
+        (subst (IsDeclarationAt section c) same first)
 
 -- ---- one that was read
 
@@ -209,9 +226,11 @@ pub has_all : (section : View) (offsets repeated sorted : List ℕ) (before : �
     → ChecksOthers section sorted before (at_in es) (at_in ds)
     → HasAll offsets (from_entries (map cached_view es)) (from_entries ds)
 has_all section offsets repeated sorted before es ds are twice same checked offset =
-    ap (λ (o : Option (Result (List Declaration) Error)). is_some o || is_some (get (from_entries {R = nat_cmp} ds) offset))
+    ap (λ (o : Option (Result (List Declaration) Error)).
+    is_some o || is_some (get (from_entries {R = nat_cmp} ds) offset))
     (get_cached es offset)
-    ∙ ap (λ (o : Option Declaration). is_some (option_map table_view (at_in es offset)) || is_some o) (get_kept ds offset)
+    ∙ ap (λ (o : Option Declaration). is_some (option_map table_view (at_in es offset)) || is_some o)
+    (get_kept ds offset)
     ∙ ap (λ (b : Bool). b || is_some (at_in ds offset)) (is_some-map table_view (at_in es offset))
     ∙ checked.all offset
     ∙ ap (λ (b : Bool). b || among offset sorted) (there section repeated before are offset ∙ twice offset)

@@ -43,7 +43,8 @@ one_added n m fit =
     let offsets = ap (λ (k : ℕ). k % 256) from_third ∙ low_bytes (n / 256 / 256) (m / 256 / 256) third in
     let attributes =
     ap (λ (k : ℕ). k % 256) from_last ∙ low_bytes (n / 256 / 256 / 256) (m / 256 / 256 / 256) last in
-    same_counts _ _ (omega (arith, bytes)) (omega (arith, addresses)) (omega (arith, offsets)) (omega (arith, attributes))
+    same_counts _ _ (omega (arith, bytes)) (omega (arith, addresses)) (omega (arith, offsets))
+    (omega (arith, attributes))
 
 pub sum_packed : (n m count : ℕ) → count ≤ 1
     → AreBytes (sum_of_widths (widths_in (packed n)) count (widths_in (packed m)))

@@ -133,34 +133,35 @@ module _ (file : DwarfFile) (u : DebugUnit) where
   by_alone (Err d) ds h = absurd cc
 
   -- over the root's declaration alone the root is the same
-  pub root-of_alone : (kept : Option (List Declaration)) (ds : List Declaration) (limit : ℕ)
-      (r : Result Row Error)
+  pub root-of_alone : {kept : Option (List Declaration)} {ds : List Declaration} {limit : ℕ} {r : Result Row Error}
       → kept ≡ Some ds → IfSome kept (λ ds. alone unit_table ≡ Ok ds) → file.offset_limit ≡ limit
       → root limit u ds ≡ r → root_over unit_table ≡ r
-  root-of_alone None ds limit r is has same found = absurd cc
-  root-of_alone (Some d) ds limit r is has same found =
+  root-of_alone {kept = None} is has same found = absurd cc
+  root-of_alone {kept = Some d} {ds = ds} {limit = limit} is has same found =
       let this : d ≡ ds = cc in
       by_alone unit_table d has ∙ ap (λ n. root n u d) same ∙ ap (root limit u) this ∙ found
 
   -- over the table that is shared, from the offset that was read
-  module _ (offset limit : ℕ) (t lent : List Declaration) (there : offset ≡ u.abbrev_offset)
+  module _ {offset limit : ℕ} {t lent : List Declaration} (there : offset ≡ u.abbrev_offset)
       (is : table_at offset file.sections.debug_abbrev ≡ Ok t) (shared : lent ≡ t)
       (same : file.offset_limit ≡ limit) where
     by_offset : unit_table ≡ Ok t
     by_offset = ap (λ n. table_at n file.sections.debug_abbrev) (sym there) ∙ is
 
-    by_limit : (r : Result Row Error) → root limit u lent ≡ r → root file.offset_limit u t ≡ r
-    by_limit r found = ap (λ n. root n u t) same ∙ ap (root limit u) (sym shared) ∙ found
+    by_limit : {r : Result Row Error} → root limit u lent ≡ r → root file.offset_limit u t ≡ r
+    by_limit found = ap (λ n. root n u t) same ∙ ap (root limit u) (sym shared) ∙ found
 
-    pub root-of_table : (r : Result Row Error) → root limit u lent ≡ r → root_over unit_table ≡ r
-    root-of_table r found = ap root_over by_offset ∙ by_limit r found
+    pub root-of_table : {r : Result Row Error} → root limit u lent ≡ r → root_over unit_table ≡ r
+    root-of_table found = ap root_over by_offset ∙ by_limit found
 
     -- the whole unit, by the attributes of its root
-    pub whole-of_root : (r : Row) (b : Result UnitFacts Error) → root limit u lent ≡ Ok r
-        → facts_of file u t r.attributes ≡ b → unit_facts file u ≡ b
-    whole-of_root r b found read =
+    pub whole-of_root : {r : Row} {attributes : List RawAttribute} {b : Result UnitFacts Error}
+        → root limit u lent ≡ Ok r → attributes ≡ r.attributes → facts_of file u t attributes ≡ b
+        → unit_facts file u ≡ b
+    whole-of_root found of read =
         ap facts_over by_offset
-        ∙ ap (λ (o : Result Row Error). and_then o (λ r. facts_of file u t r.attributes)) (by_limit (Ok r) found)
+        ∙ ap (λ (o : Result Row Error). and_then o (λ r. facts_of file u t r.attributes)) (by_limit found)
+        ∙ ap (λ (xs : List RawAttribute). facts_of file u t xs) (sym of)
         ∙ read
 
   by_refused : (table : Result (List Declaration) Error) (e : Error) → root_over table ≡ Err e
@@ -169,8 +170,8 @@ module _ (file : DwarfFile) (u : DebugUnit) where
   by_refused (Err d) e h = let same : d ≡ e = cc in ap (λ (x : Error). Err x) same
 
   -- a refused root refuses the unit
-  pub refused-of_root : (e : Error) → root_over unit_table ≡ Err e → unit_facts file u ≡ Err e
-  refused-of_root e h = by_refused unit_table e h
+  pub refused-of_root : {e : Error} → root_over unit_table ≡ Err e → unit_facts file u ≡ Err e
+  refused-of_root {e = e} h = by_refused unit_table e h
 
   by_found : (table : Result (List Declaration) Error) (r : Row) → root_over table ≡ Ok r
       → bare (facts_of file u [] r.attributes) ≡ bare (facts_over table)
@@ -180,9 +181,13 @@ module _ (file : DwarfFile) (u : DebugUnit) where
   by_found (Err d) r h = absurd cc
 
   -- the bare unit, by the attributes of its root
-  pub bare-of_root : (r : Row) (b : Result UnitFacts Error) → root_over unit_table ≡ Ok r
-      → bare (facts_of file u [] r.attributes) ≡ b → bare_unit_facts file u ≡ b
-  bare-of_root r b h is = sym (by_found unit_table r h) ∙ is
+  pub bare-of_root : {r : Row} {attributes : List RawAttribute} {b : Result UnitFacts Error}
+      → root_over unit_table ≡ Ok r → attributes ≡ r.attributes → bare (facts_of file u [] attributes) ≡ b
+      → bare_unit_facts file u ≡ b
+  bare-of_root {r = r} h of read =
+      sym (by_found unit_table r h)
+      ∙ ap (λ (xs : List RawAttribute). bare (facts_of file u [] xs)) (sym of)
+      ∙ read
 
   by_unit : (table : Result (List Declaration) Error) (r : Row) → root_over table ≡ Ok r
       → (f : UnitFacts) → facts_over table ≡ Ok f → root file.offset_limit f.header f.table ≡ Ok r
@@ -192,14 +197,16 @@ module _ (file : DwarfFile) (u : DebugUnit) where
   by_unit (Err d) r h f read = absurd cc
 
   -- the root that was read is that of the unit with its declarations
-  pub root-of_unit : (r : Row) → root_over unit_table ≡ Ok r
+  pub root-of_unit : {r : Row} → root_over unit_table ≡ Ok r
       → (f : UnitFacts) → unit_facts file u ≡ Ok f → root file.offset_limit f.header f.table ≡ Ok r
-  root-of_unit r h f read = by_unit unit_table r h f read
+  root-of_unit {r = r} h f read = by_unit unit_table r h f read
+
+  by_bare : (facts : Result UnitFacts Error) (e : Error) → bare facts ≡ Err e → facts ≡ Err e
+  by_bare (Ok f) e h = absurd cc
+  by_bare (Err d) e h = let same : d ≡ e = cc in ap (λ (x : Error). Err x) same
 
   -- a unit is refused where the bare one is
-  pub refused-of_bare : (e : Error) → bare_unit_facts file u ≡ Err e → unit_facts file u ≡ Err e
-  refused-of_bare e h = by_bare (unit_facts file u) h
-    where
-      by_bare : (facts : Result UnitFacts Error) → bare facts ≡ Err e → facts ≡ Err e
-      by_bare (Ok f) h = absurd cc
-      by_bare (Err d) h = let same : d ≡ e = cc in ap (λ (x : Error). Err x) same
+  pub refused-of_bare : {r : Row} {attributes : List RawAttribute} {e : Error}
+      → root_over unit_table ≡ Ok r → attributes ≡ r.attributes → bare (facts_of file u [] attributes) ≡ Err e
+      → unit_facts file u ≡ Err e
+  refused-of_bare {e = e} h of read = by_bare (unit_facts file u) e (bare-of_root h of read)

@@ -17,3 +17,4 @@ mod EntryReads
 pub mod OtherEntryLemmas
 mod SureWidthLemmas
 pub mod NamedAttributeLemmas
+mod PassedAttributeLemmas

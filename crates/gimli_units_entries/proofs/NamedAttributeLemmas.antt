@@ -1,13 +1,13 @@
 -- The attributes of some names: how they go on by one that is read, or skipped.
-use Rattle.std.proofs.Common.{◌≡◌, ℕ, ◌+◌, ◌-◌, ◌^◌, ◌<◌, ◌≤◌, Bool, true, false, cond, List, [], ◌∷◌, ◌++◌, length, map, get_or, take, drop, Result, Ok, Err, refl, sym, ap, ◌∙◌, arith, length-drop, append_assoc, append-nil}
-use Rattle.std.specs.Prelude.{All, ◌||◌}
+use Rattle.std.proofs.Common.{◌≡◌, ℕ, ◌+◌, ◌-◌, ◌<◌, ◌≤◌, Bool, true, false, cond, List, [], ◌∷◌, ◌++◌, length, map, get_or, take, drop, Result, Ok, Err, refl, sym, ap, ◌∙◌, arith, length-drop, append_assoc, append-nil}
+use Rattle.std.specs.Prelude.{◌||◌}
 use Rattle.std.specs.List.{list_any}
 use Rattle.std.proofs.lemmas.List.{at_drop_more, take_all, take-append-le, take-map, length-append, length-map}
-use Rattle.std.proofs.lemmas.List.Elements.{All-drop, filter-append}
+use Rattle.std.proofs.lemmas.List.Elements.{filter-append}
 use Rattle.gimli_core_base.specs.declared.error.Error.{Error}
 use Rattle.gimli_core_base.specs.declared.common.Encoding.{Encoding}
 use Rattle.gimli_core_base.specs.declared.constants.DwAt.{DwAt}
-use Rattle.gimli_core_base.specs.View.{View, after, bytes_left}
+use Rattle.gimli_core_base.specs.View.{View, after}
 use Rattle.gimli_core_base.specs.Parsers.{proceed, give, map_value}
 use Rattle.gimli_core_base.proofs.StepParts.{begins, value_is, state_is, read}
 use Rattle.gimli_core_base.proofs.Times.{prepend}
@@ -17,17 +17,15 @@ use Rattle.gimli_units_forms.specs.AttributeReading as forms
 use Rattle.gimli_units_forms.specs.AttributeValues.{RawAttribute}
 use Rattle.gimli_units_forms.specs.Places.{IsAfter}
 use Rattle.gimli_units_forms.proofs.FormSizes.{attributes-after}
-use Rattle.gimli_units_forms.proofs.RunLemmas.{run-Ok, run-run}
 use Rattle.gimli_units_entries.specs.EntryWalks.{Walk, values, walk_with_rest, read_in_walk}
 use Rattle.gimli_units_entries.specs.NamedAttributes.{is_name_of, of_names, named_attributes, named_values}
-use Rattle.gimli_units_entries.specs.SureWidths.{IsByte, IsSure}
 
-abbrev Attributes : Type 0
+abbrev pub Attributes : Type 0
 Attributes = Result (List RawAttribute × View) Error
 
 -- ---- results
 
-prepend-none : (r : Attributes) → prepend [] r ≡ r
+pub prepend-none : (r : Attributes) → prepend [] r ≡ r
 prepend-none (Ok r) = refl
 prepend-none (Err e) = refl
 
@@ -36,21 +34,12 @@ pub prepend-first : {X : Type 0} (view : X → RawAttribute) (xs : List X) (r wh
     → prepend (map view xs) r ≡ whole
 prepend-first view xs r whole none same = ap (λ ys. prepend (map view ys) r) none ∙ prepend-none r ∙ same
 
-prepend-prepend : (xs ys : List RawAttribute) (r : Attributes) → prepend xs (prepend ys r) ≡ prepend (xs ++ ys) r
+pub prepend-prepend : (xs ys : List RawAttribute) (r : Attributes) → prepend xs (prepend ys r) ≡ prepend (xs ++ ys) r
 prepend-prepend xs ys (Ok r) = ap (λ (all : List RawAttribute). read all r.1) (sym (append_assoc xs ys r.0))
 prepend-prepend xs ys (Err e) = refl
 
--- after some bytes, and then after more
-after_after : (m n : ℕ) (v : View) → n + m ≤ bytes_left v → after m (after n v) ≡ after (n + m) v
-after_after m n v there =
-    let left = length-drop n v.bytes in
-    let first = run-Ok n v (omega (arith, there)) in
-    let second = run-Ok m (after n v) (omega (arith, there, left)) in
-    state_is tt tt (after m (after n v)) (after (n + m) v)
-    (sym (run-run n m v (after n v) (after m (after n v)) first second) ∙ run-Ok (n + m) v there)
-
 -- an attribute has its declaration's name
-attribute-name : (limit : ℕ) (e : Encoding) (s : Attribute) (v w : View) (a : RawAttribute)
+pub attribute-name : (limit : ℕ) (e : Encoding) (s : Attribute) (v w : View) (a : RawAttribute)
     → attribute limit e s v ≡ Ok (a, w) → s.name ≡ a.name
 unfolding attribute
 attribute-name limit e s v w a h =
@@ -153,17 +142,6 @@ module _ (limit : ℕ) (names : List DwAt) (e : Encoding) where
       (append-nil (map view before) ∙ without_last view before now less b.0 n made count is)
       ∙ ap (λ (u : View). read (map view less) u) (state_is (map view before ++ b.0 ∷ []) (map view now) b.1 w b.3)
 
-  -- one of another name that is sure widens the run
-  named-sure : (s : Attribute) (ss : List Attribute) (run width : ℕ) (v : View) → IsSure width e s
-      → is_name_of names s.name ≡ false → 2 ^ 32 ≤ limit → All IsByte v.bytes → run + width ≤ bytes_left v
-      → named_attributes limit names e (s ∷ ss) (after run v)
-      ≡ named_attributes limit names e ss (after (run + width) v)
-  named-sure s ss run width v sure other wide bytes there =
-      let left = length-drop run v.bytes in
-      let r = sure.at limit (after run v) wide (All-drop IsByte run v.bytes bytes) (omega (arith, left, there)) in
-      named-other s ss (after run v) (after width (after run v)) r.found r.reads other
-      ∙ ap (named_attributes limit names e ss) (after_after width run v there)
-
 -- what is refused where a value is made of it was refused before
 abbrev refusal : Error → Result (RawAttribute × View) Error
 refusal d = Err d
@@ -188,30 +166,15 @@ module _ {X : Type 0} (view : X → Attribute) where
   rest_is : (xs : List X) → take (length xs - 1) (drop 1 xs) ≡ drop 1 xs
   rest_is xs = take_all (length xs - 1) (drop 1 xs) (omega (arith, length-drop 1 xs))
 
-  abbrev from_first : List X → X → List Attribute
+  abbrev pub from_first : List X → X → List Attribute
   from_first xs d = view (get_or xs 0 d) ∷ map view (take (length xs - 1) (drop 1 xs))
 
-  all_from_first : (xs : List X) (d : X) → 0 < length xs → map view xs ≡ from_first xs d
+  pub all_from_first : (xs : List X) (d : X) → 0 < length xs → map view xs ≡ from_first xs d
   all_from_first xs d some =
       at_drop_more (map view) xs 0 d some
       ∙ ap (λ (ys : List X). view (get_or xs 0 d) ∷ map view ys) (sym (rest_is xs))
 
   module _ (limit : ℕ) (names : List DwAt) (e : Encoding) where
-    -- the run goes on
-    pub run-more : (xs : List X) (d : X) (run width wider : ℕ) (v : View) (whole : Attributes) → 0 < length xs
-        → IsSure width e (view (get_or xs 0 d)) → is_name_of names (view (get_or xs 0 d)).name ≡ false → 2 ^ 32 ≤ limit
-        → All IsByte v.bytes → wider ≡ run + width → wider ≤ bytes_left v
-        → named_attributes limit names e (map view xs) (after run v) ≡ whole
-        → named_attributes limit names e (map view (take (length xs - 1) (drop 1 xs))) (after wider v) ≡ whole
-    run-more xs d run width wider v whole some sure other wide bytes is there same =
-        let rest = map view (take (length xs - 1) (drop 1 xs)) in
-        ap (λ (n : ℕ). named_attributes limit names e rest (after n v)) is
-        ∙ sym
-        (named-sure limit names e (view (get_or xs 0 d)) rest run width v sure other wide bytes
-        (omega (arith, is, there)))
-        ∙ ap (λ (ss : List Attribute). named_attributes limit names e ss (after run v)) (sym (all_from_first xs d some))
-        ∙ same
-
     -- an attribute is read, and those of the names that follow are what is left
     pub named-more : (xs : List X) (d : X) (before now : List RawAttribute) (v w u : View)
         (others : List Attribute) (whole : Attributes) → 0 < length xs

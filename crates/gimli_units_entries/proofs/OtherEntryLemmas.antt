@@ -1,14 +1,12 @@
 -- How entries are skipped, one after the other.
-use Rattle.std.proofs.Common.{◌≡◌, ℕ, zero, suc, ◌+◌, ◌≤◌, ◌<◌, Bool, true, false, cond, eqb, List, Option, Some, None, Result, Ok, Err, refl, sym, ap, subst, ◌∙◌, arith, length-drop}
+use Rattle.std.proofs.Common.{◌≡◌, ℕ, zero, suc, ◌≤◌, ◌<◌, Bool, true, false, cond, eqb, List, Option, Some, None, Result, Ok, Err, refl, sym, ap, subst, ◌∙◌, arith, length-drop}
 use Rattle.std.specs.Prelude.{ℤ, pos, ◌+ℤ◌, ◌-ℤ◌, ◌≤ℤ◌, int_lt}
 use Rattle.std.proofs.lemmas.Int.{ints}
-use Rattle.std.proofs.lemmas.Bool.{eqb-true}
 use Rattle.gimli_core_base.specs.declared.error.Error.{Error}
 use Rattle.gimli_core_base.specs.declared.common.Encoding.{Encoding}
 use Rattle.gimli_core_base.specs.View.{View, after, bytes_left}
 use Rattle.gimli_core_base.specs.Parsers.{proceed, lift, here}
 use Rattle.gimli_core_base.specs.NumberParsers.{unsigned}
-use Rattle.gimli_core_base.proofs.StepParts.{state_is, value_is}
 use Rattle.gimli_core_base.proofs.NumberReadSizes.{Below-unsigned}
 use Rattle.gimli_units_forms.specs.Declarations.{Declaration, declaration_at}
 use Rattle.gimli_units_forms.specs.AttributeSkipping as form_skips

@@ -1,5 +1,5 @@
 -- The attributes of some names, among those that declarations describe.
-use Rattle.std.specs.Prelude.{ℕ, ◌==◌, Bool, List}
+use Rattle.std.specs.Prelude.{◌≡◌, ◌++◌, ℕ, ◌==◌, Bool, false, List, All, Ok}
 use Rattle.std.specs.List.{filter, list_any}
 use Rattle.gimli_core_base.specs.declared.common.Encoding.{Encoding}
 use Rattle.gimli_core_base.specs.declared.constants.DwAt.{DwAt}
@@ -25,3 +25,14 @@ named_attributes limit names e ss = map_value (of_names names) (forms.attributes
 -- the same as a step of a walk
 abbrev pub named_values : ℕ → List DwAt → List Attribute → Step Walk (List RawAttribute)
 named_values limit names ss = map_value (of_names names) (values limit ss)
+
+-- Of the attributes that declarations describe, which `read` reads, the first are read, and none of
+-- them has one of the names: `left` are the declarations that are left, in the state `new`.
+pub record PassesOthers {S : Type 0} (names : List DwAt)
+    (read : List Attribute → Step S (List RawAttribute)) (all : List Attribute) (old : S)
+    (left : List Attribute) (new : S) : Type 0 where
+  pub first : List Attribute
+  pub passed : List RawAttribute
+  pub divided : first ++ left ≡ all
+  pub reads : read first old ≡ Ok (passed, new)
+  pub others : All (λ a. is_name_of names a.name ≡ false) passed

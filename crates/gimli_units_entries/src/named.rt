@@ -6,10 +6,10 @@ ghost use Rattle.gimli_core_base.specs.Calls.{ReturnsAsOrNoMemory};
 ghost use Rattle.gimli_core_base.specs.Parsers.{map_value};
 ghost use Rattle.gimli_core_base.specs.View.{after, bytes_left};
 ghost use Rattle.gimli_units_forms.specs.AbbreviationViews.{attribute_view};
-ghost use Rattle.gimli_units_forms.specs.AttributeReading.{attribute};
+ghost use Rattle.gimli_units_forms.specs.AttributeReading.{attribute, attributes};
 ghost use Rattle.gimli_units_forms.specs.Places.{IsAfter};
 ghost use Rattle.gimli_units_entries.specs.EntryViews.{raw_attributes};
-ghost use Rattle.gimli_units_entries.specs.NamedAttributes.{is_name_of, of_names, named_attributes};
+ghost use Rattle.gimli_units_entries.specs.NamedAttributes.{is_name_of, of_names, named_attributes, PassesOthers};
 ghost use Rattle.gimli_units_entries.specs.SureWidths.{IsSure, is_long_number};
 
 use gimli_core_base::constants::{DW_FORM_data8, DW_FORM_ref_sig8};
@@ -89,11 +89,9 @@ fn run_of_others<'s, E: Endianity>(
     specifications: &'s [AttributeSpecification],
     names: &[DwAt],
 ) -> (usize, &'s [AttributeSpecification])
-    ensures same { (limit : ℕ) → 2 ^ 32 ≤ limit
-        → named_attributes limit names.now encoding (map attribute_view result.1.now)
-        (after result.0 place.now)
-        ≡ named_attributes limit names.now encoding (map attribute_view specifications.now)
-        place.now }
+    ensures passes { (limit : ℕ) → 2 ^ 32 ≤ limit
+        → PassesOthers names.now (attributes limit encoding) (map attribute_view specifications.now)
+        place.now (map attribute_view result.1.now) (after result.0 place.now) }
     ensures within { result.0 ≤ bytes_left place.now }
     ensures fewer { length result.1.now ≤ length specifications.now }
 {
@@ -113,6 +111,24 @@ fn run_of_others<'s, E: Endianity>(
         left = rest;
     }
     (run, left)
+}
+
+// How many bytes of a reader the first attributes with other names take, and the declarations from
+// the one on that must be read.
+#[inline(always)]
+pub(crate) fn first_others<'s, R: Reader>(
+    reader: &R,
+    encoding: Encoding,
+    specifications: &'s [AttributeSpecification],
+    names: &[DwAt],
+) -> (usize, &'s [AttributeSpecification])
+    ensures passes { PassesOthers names.now (attributes R.Offset.limit encoding)
+        (map attribute_view specifications.now) (R.view reader.now)
+        (map attribute_view result.1.now) (after result.0 (R.view reader.now)) }
+    ensures within { result.0 ≤ bytes_left (R.view reader.now) }
+    ensures fewer { length result.1.now ≤ length specifications.now }
+{
+    run_of_others(&borrowed(reader), encoding, specifications, names)
 }
 
 // Skips these attributes, and returns the declarations from the one on that must be read.

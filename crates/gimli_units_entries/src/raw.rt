@@ -1,6 +1,6 @@
 //! A walk over the entries of a unit, one read at a time.
 
-ghost use Rattle.std.specs.Prelude.{◌≡◌, ◌==◌, ◌<◌, ◌≤◌, Ok, IfOk, IsTrue, OnErr, [], map, option_map};
+ghost use Rattle.std.specs.Prelude.{◌≡◌, ◌==◌, ◌<◌, ◌≤◌, Ok, IfOk, IsTrue, OnErr, [], length, map, option_map};
 ghost use Rattle.gimli_core_base.specs.View.{after, bytes_left};
 ghost use Rattle.gimli_core_base.specs.Calls.{ReturnsAs, ReturnsAsOrNoMemory, ReturnsOrNoMemory, StepsAsOrNoMemory, ReadsAs, Reads};
 ghost use Rattle.gimli_units_forms.specs.AbbreviationViews.{attribute_view};
@@ -9,12 +9,12 @@ ghost use Rattle.gimli_units_entries.specs.EntryWalks.{IsWithin, next_offset, wa
 ghost use Rattle.gimli_units_entries.specs.EntryRows.{null_at, row, present_row};
 ghost use Rattle.gimli_units_entries.specs.OtherEntries.{is_tag_of, skip_others};
 ghost use Rattle.gimli_units_entries.specs.EntryViews.{entry_of, raw_attributes};
-ghost use Rattle.gimli_units_entries.specs.NamedAttributes.{named_values};
+ghost use Rattle.gimli_units_entries.specs.NamedAttributes.{named_values, PassesOthers};
 
 use crate::attributes::read_each;
 use crate::codes::code_at;
 use crate::entry::DebuggingInformationEntry;
-use crate::named::read_named;
+use crate::named::{first_others, read_named};
 use crate::others::others_after;
 use gimli_core_base::error::Error;
 use gimli_core_base::{DwAt, DwTag, Encoding, ReaderOffset};
@@ -141,6 +141,26 @@ impl<'abbrev, R: Reader> EntriesRaw<'abbrev, R> {
             (skip_values (map attribute_view specifications.now) self.old) }
     {
         skip_attributes(&mut self.input, self.encoding, specifications)
+    }
+
+    /// Skips the first of the attributes that declarations describe, in one run of bytes: as long
+    /// as they have none of these names, reading refuses them only where their bytes are missing,
+    /// and they are there. Returns the declarations from the one on that is to be read. Takes no
+    /// memory. Compares the name of each attribute with all of these.
+    #[inline(always)]
+    pub fn skip_other_attributes<'s>(
+        &mut self,
+        specifications: &'s [AttributeSpecification],
+        names: &[DwAt],
+    ) -> &'s [AttributeSpecification]
+        ensures passes { PassesOthers names.now (values R.Offset.limit)
+            (map attribute_view specifications.now) self.old
+            (map attribute_view result.now) self.new }
+        ensures fewer { length result.now ≤ length specifications.now }
+    {
+        let (count, left) = first_others(&self.input, self.encoding, specifications, names);
+        self.input.advance(count);
+        left
     }
 
     /// Skips the attributes of an entry whose declaration has been read, by their widths alone.

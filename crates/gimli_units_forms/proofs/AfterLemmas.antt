@@ -2,7 +2,7 @@
 use Rattle.std.proofs.Common.{◌≡◌, ℕ, zero, suc, ◌+◌, ◌^◌, Bool, true, false, cond, eqb, List, [], ◌∷◌, length, Option, Some, None, Result, Ok, Err, refl, sym, ◌∙◌, arith}
 use Rattle.std.specs.Prelude.{map}
 use Rattle.gimli_core_abbrev.specs.Error.{Error}
-use Rattle.gimli_core_abbrev.specs.View.{View, after, prefix}
+use Rattle.gimli_core_abbrev.specs.View.{View, prefix}
 use Rattle.gimli_core_abbrev.specs.Parsers.{branch, give, null_terminated, find_byte, text_to, ◌>>=◌}
 use Rattle.gimli_core_abbrev.proofs.StepParts.{state_is, read}
 use Rattle.gimli_core_abbrev.specs.Encoding.{Encoding}

@@ -1,5 +1,5 @@
 -- How much of the bytes attributes take, read or skipped: what follows them is what the bytes left begin with.
-use Rattle.std.proofs.Common.{◌≡◌, ℕ, ◌≤◌, List, Option, Ok, ap, subst, ◌∙◌, arith}
+use Rattle.std.proofs.Common.{◌≡◌, ℕ, ◌≤◌, List, Option, Ok, ap, ◌∙◌, arith}
 use Rattle.std.specs.Prelude.{ℤ}
 use Rattle.gimli_core_abbrev.specs.View.{View, bytes_left}
 use Rattle.gimli_core_abbrev.specs.Parsers.{map_value, give}

@@ -1,6 +1,6 @@
 -- What skipping attributes means for the bytes: those between two places where bytes must be looked
 -- at are one run.
-use Rattle.std.specs.Prelude.{◌≡◌, ◌≤◌, ◌<◌, ◌+◌, ◌++◌, ◌^◌, ℕ, List, [], ◌∷◌, map, sum, Option, None, Some, Result, Ok, Err}
+use Rattle.std.specs.Prelude.{◌≡◌, ◌≤◌, ◌<◌, ◌+◌, ◌++◌, ◌^◌, ℕ, List, [], ◌∷◌, map, sum, None, Some, Result, Ok, Err}
 use Rattle.gimli_core_abbrev.specs.Error.{Error}
 use Rattle.gimli_core_abbrev.specs.Error.TheVariants.{OffsetSumOverflow}
 use Rattle.gimli_core_abbrev.specs.View.{View, after, bytes_left, unexpected_end}

@@ -1,7 +1,9 @@
-ghost use Rattle.std.specs.Prelude.{◌≡◌, ◌≤◌, ◌++◌, ◌∷◌, [], map, IfOk, IsTrue, OnErr};
+ghost use Rattle.std.specs.Prelude.{◌≡◌, ◌<◌, ◌≤◌, ◌++◌, ◌∷◌, [], ℕ, Ok, length, map, slice_index, IfOk, IfSome, IsTrue, OnErr};
 ghost use Rattle.gimli_core_abbrev.specs.Parsers.{map_value, null_terminated};
+ghost use Rattle.gimli_core_abbrev.specs.View.{after};
+ghost use Rattle.gimli_core_abbrev.specs.TheConstants.{DW_FORM_indirect};
 ghost use Rattle.gimli_core_abbrev.specs.Calls.{ReturnsAs, ReturnsAsOrNoMemory, ReadsAs, ReadsAsOrNoMemory};
-ghost use Rattle.gimli_core_abbrev.specs.NumberParsers.{fixed, unsigned};
+ghost use Rattle.gimli_core_abbrev.specs.NumberParsers.{fixed, unsigned, unsigned_16};
 ghost use Rattle.gimli_core_abbrev.specs.AbbreviationViews.{attribute_view};
 ghost use Rattle.gimli_units_forms.specs.AttributeReading.{number_value, is_offset_data, meaning_in, offset_meanings, FitsSpelling, FitsWidth, final_form, bytes_value, bytes_by_length, value_in_form, attribute_in_form, attribute};
 ghost use Rattle.gimli_units_forms.specs.FormSpellings.{spelling};
@@ -126,6 +128,58 @@ pub(crate) fn read_fixed<R: Reader>(reader: &mut R, width: u8) -> Result<u64, Er
     })
 }
 
+// The next byte, where it is the number of a form by itself, as those of the standard are.
+#[inline(always)]
+#[tactic(auto, unfolding(gimli_core_base::specs::NumberParsers::unsigned_16))]
+fn short_form<R: Reader>(reader: &R) -> Option<DwForm>
+    ensures number { IfSome result
+        (λ f. unsigned_16 (R.view reader.now) ≡ Ok (f.0, after 1 (R.view reader.now))) }
+    ensures there { IfSome result (λ f. 1 ≤ length (R.view reader.now).bytes) }
+{
+    match reader.as_bytes() {
+        [number, ..] if *number < 128 => Some(DwForm(u16::from(*number))),
+        _ => None,
+    }
+}
+
+// The number of a form: an unsigned LEB128 number of 16 bits.
+#[inline(always)]
+fn read_form_number<R: Reader>(reader: &mut R) -> Result<DwForm, Error>
+    ensures { ReturnsAs (λ f. (f.0, R.view reader.new)) result (unsigned_16 (R.view reader.old)) }
+{
+    match short_form(reader) {
+        Some(form) => {
+            reader.advance(1);
+            Ok(form)
+        }
+        None => Ok(DwForm(reader.read_uleb128_u16()?)),
+    }
+}
+
+// How many of the first bytes are the number of `DW_FORM_indirect`.
+#[inline(always)]
+fn count_indirect(bytes: &[u8]) -> usize
+    ensures within { result ≤ length bytes.now }
+    ensures each { (k : ℕ) → k < result → slice_index bytes.now k ≡ DW_FORM_indirect.0 }
+{
+    let mut count = 0;
+    while count < bytes.len() && u16::from(bytes[count]) == DW_FORM_indirect.0 {
+        count += 1;
+    }
+    count
+}
+
+// Skips numbers after `DW_FORM_indirect` that are its own again, in one run.
+#[inline(always)]
+fn skip_indirect<R: Reader>(reader: &mut R)
+    ensures same { final_form DW_FORM_indirect.0 (R.view reader.new)
+        ≡ final_form DW_FORM_indirect.0 (R.view reader.old) }
+    ensures fewer { length (R.view reader.new).bytes ≤ length (R.view reader.old).bytes }
+{
+    let count = count_indirect(reader.as_bytes());
+    reader.advance(count);
+}
+
 // The form of a value: after `DW_FORM_indirect` comes the number of the form.
 #[inline(always)]
 pub(crate) fn read_form<R: Reader>(reader: &mut R, form: DwForm) -> Result<DwForm, Error>
@@ -134,7 +188,8 @@ pub(crate) fn read_form<R: Reader>(reader: &mut R, form: DwForm) -> Result<DwFor
 {
     let mut form = form;
     while form == DW_FORM_indirect {
-        form = DwForm(reader.read_uleb128_u16()?);
+        skip_indirect(reader);
+        form = read_form_number(reader)?;
     }
     Ok(form)
 }

@@ -1,4 +1,4 @@
-use Rattle.std.proofs.Common.{◌∙◌, ◌∷◌, sym, ap, drop}
+use Rattle.std.proofs.Common.{◌∙◌, ◌+◌, ◌∷◌, sym, ap, drop}
 use Rattle.addr2line_index.specs.NumberedRanges.{overlapping_ranges}
 use Rattle.addr2line_index.specs.BoundedRanges.{ranges_in}
 use Rattle.addr2line_index.proofs.BoundedRangeLemmas.{all_left, left_is, counted_here, overlapping_start, overlapping_found, stop_overlapping}
@@ -8,16 +8,16 @@ pub loop-place-init : goal.loop-place-init
 loop-place-init c =
     let a = c.args in
     let entries = a.entries.now in
-    ap (λ n. overlapping_ranges a.low a.high (all_left a.from (drop n entries))) c.count_skipped-place.ensures
-    ∙ overlapping_start a.low a.high a.from 0 entries c.requires.2
-    ∙ ap (overlapping_ranges a.low a.high) (sym (left_is a.from entries c.requires.2))
+    ap (λ n. overlapping_ranges a.low (a.last + 1) (all_left a.from (drop n entries))) c.count_skipped-place.ensures
+    ∙ overlapping_start a.low (a.last + 1) a.from 0 entries c.requires.2
+    ∙ ap (overlapping_ranges a.low (a.last + 1)) (sym (left_is a.from entries c.requires.2))
 
-pub returns-then-high-entry : goal.returns-then-high-entry
-returns-then-high-entry c =
+pub returns-then-last-entry : goal.returns-then-last-entry
+returns-then-last-entry c =
     let a = c.args in
     sym c.loop-place.invariant
-    ∙ stop_overlapping a.low a.high c.loop-place.place a.from a.entries.now _ c.loop-place-test.true c.requires.1
-    c.if-high-entry.true
+    ∙ stop_overlapping a.low a.last c.loop-place.place a.from a.entries.now _ c.loop-place-test.true c.requires.1
+    c.if-last-entry.true
 
 pub pair_between-requires : goal.pair_between-requires
 pair_between-requires c =
@@ -27,7 +27,7 @@ pub returns-in-Some : goal.returns-in-Some
 returns-in-Some c =
     let a = c.args in
     sym c.loop-place.invariant
-    ∙ overlapping_found a.low a.high c.loop-place.place a.from a.entries.now _ (c.in-Some.range, c.in-Some.next)
+    ∙ overlapping_found a.low (a.last + 1) c.loop-place.place a.from a.entries.now _ (c.in-Some.range, c.in-Some.next)
     c.loop-place-test.true c.requires.2 c.in-Some.ensures
-    ∙ ap (λ n. c.in-Some.range ∷ overlapping_ranges a.low a.high (drop n (ranges_in a.entries.now)))
+    ∙ ap (λ n. c.in-Some.range ∷ overlapping_ranges a.low (a.last + 1) (drop n (ranges_in a.entries.now)))
     (sym c.place_after.ensures)

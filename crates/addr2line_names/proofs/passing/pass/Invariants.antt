@@ -7,7 +7,7 @@ use Rattle.addr2line_names.proofs.passing.pass.Given as goal
 abbrev pub invariant-loop-left : goal.invariant-loop-left
 invariant-loop-left g l = record {
   passes :
-      Passes g.R.Offset.ReaderOffset.limit (map attribute_view l.specifications) l.initial.entries
+      Passes g.R.Offset.ReaderOffset.limit (map attribute_view l.specifications) l.fn.entries
       (map attribute_view l.left) l.entries;
   fewer : length l.left ≤ length l.specifications;
 }

@@ -48,7 +48,8 @@ pushing-preserved g c =
     let known = more_further c.args.facts.now c.pushing.facts c.push_short_run-count.new.facts
     (added_view old c.pushing.found.items) (added_view c.pushing.found.items pushed) (added_view old pushed)
     c.pushing.invariant.knows c.push_short_run-count.ensures.knows
-    (view_more old c.pushing.found.items pushed c.pushing.invariant.read.extends c.push_short_run-count.ensures.extends) in
+    (view_more old c.pushing.found.items pushed c.pushing.invariant.read.extends
+    c.push_short_run-count.ensures.extends) in
     record {
       read = read_item old pushed new a c.args.input.now c.advance.new.self c.push_next.new.place run more
           (c.in_ok-attribute.ensures.value ∙ ap (ok_attribute c.push_next.new.place) c.in-Some.is);
@@ -103,7 +104,8 @@ returns-in-None-clause-knows g c =
     let known = more_further c.args.facts.now c.pushing.facts c.push_short_run-count.new.facts
     (added_view old c.pushing.found.items) (added_view c.pushing.found.items pushed) (added_view old pushed)
     c.pushing.invariant.knows c.push_short_run-count.ensures.knows
-    (view_more old c.pushing.found.items pushed c.pushing.invariant.read.extends c.push_short_run-count.ensures.extends) in
+    (view_more old c.pushing.found.items pushed c.pushing.invariant.read.extends
+    c.push_short_run-count.ensures.extends) in
     let same = unchanged pushed c.push_next.new.found.items _ c.in_ok-attribute.ensures.items c.in-None.is in
     subst (λ (xs : List AttributeSpecification). KnowsMore c.args.facts.now c.push_short_run-count.new.facts
     (added_view old xs)) (sym same) known

@@ -1,4 +1,4 @@
-use Rattle.std.proofs.Common.{◌≡◌, ℕ, Bool, true, false, eqb, ℤ, None, Some, arith, rules, ap, sym, ◌∙◌, w64, to_z, of_z}
+use Rattle.std.proofs.Common.{◌≡◌, false, eqb, ℤ, None, Some, arith, rules, ap, sym, ◌∙◌, w64, to_z, of_z}
 use Rattle.std.proofs.lemmas.Bool.Decides.{nat_tests}
 use Rattle.std.proofs.lemmas.Int.{to_z-of_z}
 use Rattle.gimli_core_base.proofs.StepParts.{read}
