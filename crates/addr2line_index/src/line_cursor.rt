@@ -85,8 +85,8 @@ fn stretch_at_place(
 }
 
 impl LineIndex {
-    /// Where a walk over the rows from a low end on begins, if there are rows for it. It is a
-    /// search.
+    /// Where a walk over the rows from a low end on begins; at none only where no row is left from
+    /// there on. It is a search.
     pub fn cursor_from(&self, low: u64, probes: &mut Probes) -> Option<LineCursor>
         requires counter { probes.old.name ≡ self.now.counter }
         ensures lines { MatchOption result

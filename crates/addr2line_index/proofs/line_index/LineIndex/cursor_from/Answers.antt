@@ -20,9 +20,9 @@ module _ (x : CountedLines) (low high next past : ℕ) (is : past ≡ length (se
       → lines_left x.lines low high (record { place = record { sequence = past; row = 0 }; next = next })
       ≡ lines_between x.lines low high
   left_from_start first =
-      let none : slice_get (sequences_by_start x.lines) past ≡ None =
+      let no : slice_get (sequences_by_start x.lines) past ≡ None =
       slice_get_past (sequences_by_start x.lines) past (omega (arith, is)) in
-      ap (λ (o : Option Sequence). sequence_from x.lines.files high 0 o ++ stretches_by_start x.lines low high next) none
+      ap (λ (o : Option Sequence). sequence_from x.lines.files high 0 o ++ stretches_by_start x.lines low high next) no
       ∙ first
 
 pub returns-then-next-len-clause-cost : goal.returns-then-next-len-clause-cost
